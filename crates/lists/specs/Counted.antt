@@ -1,0 +1,20 @@
+-- Counted loops: k turns, numbered from i on. Definitions only.
+use Prim.Native.Nat.{ℕ, zero, suc}
+use mathlib.Core.Bool.{Bool, true, false}
+use Rattle.lists.specs.Pick.{pick}
+
+-- each turn changes the state s
+module _ {S : Type 0} (f : ℕ → S → S) where
+  unfoldable pub iter : ℕ → ℕ → S → S
+  iter zero i s = s
+  iter (suc k) i s = iter k (suc i) (f i s)
+
+-- whether a test holds of each number
+unfoldable pub every : (ℕ → Bool) → ℕ → ℕ → Bool
+every p zero i = true
+every p (suc k) i = pick (p i) (every p k (suc i)) false
+
+-- of how many numbers it holds
+unfoldable pub tally : (ℕ → Bool) → ℕ → ℕ → ℕ
+tally p zero i = zero
+tally p (suc k) i = pick (p i) (suc (tally p k (suc i))) (tally p k (suc i))

@@ -1,0 +1,5 @@
+pub mod Pick
+pub mod Part
+pub mod Counted
+pub mod All
+pub mod Refusal

@@ -1,0 +1,4 @@
+pub mod Number
+pub mod Units
+pub mod Root
+pub mod Scalar

@@ -1,0 +1,12 @@
+-- `vector::rotate` meets its contract: the definition, replayed as the code runs. Assumes nothing.
+use lib.Ieee.{ofBits}
+use Rattle.vector.specs.Arithmetic.{rotateV}
+use Rattle.vector.proofs.rotate.Statement.{statement}
+use Rattle.vector.proofs.rotate.Tie as tie
+
+returns : tie.Need-returns
+unfolding rotateV ofBits
+returns c = rw (← c .before .before .before .before .before .before .before .dot .ensures, ← c .before .before .before .before .before .before .scale .ensures, ← c .before .before .before .before .before .dot2 .ensures, ← c .before .before .before .before .scale2 .ensures, ← c .before .before .before .add .ensures, ← c .before .before .cross .ensures, ← c .before .scale3 .ensures, ← c .add2 .ensures)
+
+pub rotate-spec : {M : Type 1} → statement M
+rotate-spec = tie.close (tie.spec (λ c κs. tt) (λ c κs. tt) (λ c κs. tt) (λ c κs. tt) (λ c κs. tt) (λ c κs. tt) (λ c κs. tt) (λ c κs. tt) returns)
