@@ -1,0 +1,6 @@
+pub mod Marked
+pub mod Demand3
+pub mod Brake
+pub mod GripCircle
+pub mod Chain
+pub mod Ranges

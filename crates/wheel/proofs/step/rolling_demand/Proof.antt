@@ -1,0 +1,11 @@
+-- `wheel::step::rolling_demand` meets its contract: the definition, replayed as the code runs. Assumes nothing.
+use Rattle.wheel.specs.Step.{rollingDemand}
+use Rattle.wheel.proofs.step.rolling_demand.Statement.{statement}
+use Rattle.wheel.proofs.step.rolling_demand.Tie as tie
+
+returns : tie.Need-returns
+unfolding rollingDemand
+returns c = rw (← c .before .before .wheel-forward .ensures, ← c .before .calc-rolling-friction .ensures, ← c .rolling .ensures)
+
+pub rolling-demand-spec : {M : Type 1} → statement M
+rolling-demand-spec = tie.close (tie.spec (λ c κs. tt) (λ c κs. tt) (λ c κs. tt) returns)

@@ -1,0 +1,11 @@
+-- `wheel::step::side_demand` meets its contract: the definition, replayed as the code runs. Assumes nothing.
+use Rattle.wheel.specs.Step.{sideDemand}
+use Rattle.wheel.proofs.step.side_demand.Statement.{statement}
+use Rattle.wheel.proofs.step.side_demand.Tie as tie
+
+returns : tie.Need-returns
+unfolding sideDemand
+returns c = rw (← c .before .wheel-axis .ensures, ← c .resolve-single .ensures)
+
+pub side-demand-spec : {M : Type 1} → statement M
+side-demand-spec = tie.close (tie.spec (λ c κs. tt) (λ c κs. tt) returns)

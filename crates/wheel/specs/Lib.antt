@@ -1,0 +1,6 @@
+pub mod Suspension
+pub mod Ray
+pub mod Demand
+pub mod Grip
+pub mod Step
+pub mod Demand3

@@ -1,0 +1,94 @@
+// One wheel, on values: document 01's rules for a single wheel. A row of the lent table is read into a `Wheel`, and written from one.
+use body::GroundBody;
+use vector::Rotation;
+use vector::Vector;
+
+pub mod ray; // rules 1 and 3 to 5: where the wheel is, and what its ray met
+pub mod suspension; // rules 4 and 6, on plain numbers, and the spring's impulse
+pub mod demand; // rule 7: what the tyre asks of the ground
+pub mod grip; // rule 8, on plain numbers: what the ground gives
+pub mod step; // rules 6 to 10 for one wheel of a drive
+
+// What was handed in when the wheel was added. `side` is the source's side_friction_stiffness, `most` its max_suspension_force.
+pub struct Settings {
+    pub connection: Vector,
+    pub direction: Vector,
+    pub axle: Vector,
+    pub rest: f32,
+    pub travel: f32,
+    pub radius: f32,
+    pub stiffness: f32,
+    pub compression: f32,
+    pub relaxation: f32,
+    pub slip: f32,
+    pub side: f32,
+    pub most: f32,
+}
+
+// What is set before a frame. The steering is a rotation in world space.
+pub struct Controls {
+    pub steering: Rotation,
+    pub engine: f32,
+    pub brake: f32,
+}
+
+// The source's `RayCastInfo`, less contact and ground object, which are not kept.
+pub struct RayCastInfo {
+    pub normal: Vector,
+    pub point: Vector,
+    pub length: f32,
+    pub hard: Vector,
+}
+
+// Where the wheel is: its centre, and the world's direction and axle.
+pub struct Place {
+    pub centre: Vector,
+    pub direction: Vector,
+    pub axle: Vector,
+}
+
+// The ray's meeting with the ground: the source's suspension_relative_velocity and clipped_inv_contact_dot_suspension.
+pub struct Approach {
+    pub velocity: f32,
+    pub inverse: f32,
+}
+
+// The spin is the source's delta_rotation.
+pub struct Motion {
+    pub rotation: f32,
+    pub spin: f32,
+    pub force: f32,
+    pub forward: f32,
+    pub side: f32,
+    pub skid: f32,
+}
+
+pub struct Wheel {
+    pub info: RayCastInfo,
+    pub place: Place,
+    pub settings: Settings,
+    pub controls: Controls,
+    pub approach: Approach,
+    pub motion: Motion,
+}
+
+// What a wheel's ray met: nothing; a hit with its time, its normal and the ground body's number; a hit that also has the normal of the
+// upward cast. The number 0 names no body, n names body n - 1 of the drive's list.
+pub enum RayAnswer {
+    Nothing,
+    Hit(f32, Vector, u32),
+    HitUp(f32, Vector, Vector, u32),
+}
+
+// The body under a wheel, by value.
+pub enum Ground {
+    Nothing,
+    On(GroundBody),
+}
+
+// The two impulses of one wheel, and its skid.
+pub struct Friction {
+    pub forward: f32,
+    pub side: f32,
+    pub skid: f32,
+}
