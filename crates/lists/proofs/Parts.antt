@@ -8,7 +8,7 @@ use native.Mathlib.Decide.{decLt}
 use native.Mathlib.Numerals.{add-one}
 use native.Mathlib.Omega.{arith}
 use lib.ListN.{length, take, drop, getD, set, length-append, length-take, length-drop, drop-of-length-le}
-use lib.Seq.{take-at, drop-at, take-append-le, drop-append-le, drop-append-add, drop-drop, take-take, length-take-le, take-all}
+use lib.Seq.{take-at, drop-at, take-append-le, drop-append-le, drop-append-add, drop-drop, take-take, length-take-le, take-all, getD-take, getD-drop}
 use Rattle.lists.specs.Part.{part, paste}
 
 cut : (a k : ℕ) → (a + k) - a ≡ k
@@ -33,6 +33,11 @@ module _ {A : Type 0} where
   pub length-part : (t : List A) (a k : ℕ) → a + k ≤ length t → length (part t a k) ≡ k
   unfolding part
   length-part t a k h = simp (length-take, length-drop) (omega arith)
+
+  -- what stands in a part
+  pub getD-part : (t : List A) (a k i : ℕ) (z : A) → i < k → getD (part t a k) i z ≡ getD t (a + i) z
+  unfolding part
+  getD-part t a k i z l = rw (getD-take, getD-drop)
 
   pub length-paste : (t : List A) (a : ℕ) (r : List A) → a + length r ≤ length t → length (paste t a r) ≡ length t
   unfolding paste

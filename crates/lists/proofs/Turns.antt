@@ -53,6 +53,11 @@ next i = omega arith
 
 -- a loop that tests each number: the invariant is `every p n 0 ≡ every p (n - i) i`
 module _ (p : ℕ → Bool) where
+  pub every-start : (n : ℕ) → every p n 0 ≡ every p (n - 0) 0
+  every-start n =
+      let a : n - 0 ≡ n = omega arith in
+      rw a
+
   pub every-yes : (n i : ℕ) → i < n → p i ≡ true → every p (n - i) i ≡ every p (n - (i + 1)) (i + 1)
   unfolding every pick
   every-yes n i l e = rw (left-suc n i l, next i, e)

@@ -91,3 +91,9 @@ unfoldable pub grounds : RayAnswer → Bool
 grounds Nothing = false
 grounds (Hit time normal named) = true
 grounds (HitUp time normal upward named) = true
+
+-- the number by which an answer names its ground body: 0 for none, n for body n − 1 of the drive's list
+unfoldable pub namedOf : RayAnswer → ℕ
+namedOf Nothing = 0
+namedOf (Hit time normal named) = named
+namedOf (HitUp time normal upward named) = named

@@ -1,0 +1,2 @@
+-- The laws that proofs over the passes cite.
+pub mod Laws

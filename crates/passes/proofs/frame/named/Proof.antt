@@ -1,0 +1,20 @@
+-- `passes::frame::named` meets its contract: the definition, replayed as the code runs. Assumes nothing.
+use borrow.Author.Needs.{needs}
+use Rattle.wheel.specs.Ray.{namedOf}
+use Rattle.passes.proofs.frame.named.Statement.{statement}
+use Rattle.passes.proofs.frame.named.Tie as tie
+
+returns : tie.Need-returns
+unfolding namedOf
+returns c = rw (c .enum-told .given .1)
+
+returns-2 : tie.Need-returns-2
+unfolding namedOf
+returns-2 c = rw (c .before .answer .given .1)
+
+returns-3 : tie.Need-returns-3
+unfolding namedOf
+returns-3 c = rw (c .before .answer2 .given .1)
+
+pub named-spec : {M : Type 1} → statement M
+named-spec = tie.close (tie.spec (λ c. search needs) (λ c. search needs) (λ c. search needs) returns returns-2 returns-3)

@@ -1,0 +1,36 @@
+-- `passes::rows::friction_pass` meets its contract: a turn for each wheel. Assumes nothing.
+use borrow.Author.Needs.{needs}
+use Prim.Native.Nat.{_-_}
+use native.Mathlib.Omega.{arith}
+use lib.Ieee.{binary32}
+use Rattle.passes.specs.Frame.{frame}
+use Rattle.passes.specs.Passes.{demandAt, demands}
+use Rattle.passes.proofs.Laws.{Passing, passing-start, passing-again, passing-done}
+use Rattle.passes.proofs.rows.friction_pass.Statement.{statement}
+use Rattle.passes.proofs.rows.friction_pass.Tie as tie
+
+abbrev Inv-loop : tie.InvT-loop
+Inv-loop table₀ n dt chassis bodies dynamic answers grounded i₀ table i = Passing (demandAt binary32 (frame dt bodies dynamic answers) chassis grounded) n table₀ i table
+
+abbrev μ-loop : tie.MeasureT-loop
+μ-loop table₀ n dt chassis bodies dynamic answers grounded i₀ table i = n - i
+
+-- the wheel's answer names a listed body
+friction-wheel-requires : tie.Need-friction-wheel-requires Inv-loop μ-loop
+friction-wheel-requires c κs =
+    let turn = c .before in
+    let l = turn .before in
+    let p = l .before .before .before .before .pre in
+    (l .loop .inv .size, omega arith, p .2 (l .loop .i) (turn .loop-test .taken), p .3, p .4)
+
+loop-again : tie.Need-loop-again Inv-loop μ-loop
+loop-again c =
+    let turn = c .before .before in
+    passing-again _ _ _ _ _ _ (turn .before .before .before .loop .inv) (omega arith) (omega arith) (turn .friction-wheel .ensures)
+
+returns : tie.Need-returns Inv-loop μ-loop
+unfolding demands
+returns c = passing-done _ _ _ _ _ (c .before .loop .inv) (omega arith)
+
+pub friction-pass-spec : {M : Type 1} → statement M
+friction-pass-spec = tie.close (tie.spec Inv-loop μ-loop (λ c. passing-start _ _ _ (search needs)) friction-wheel-requires (λ c. search needs) (λ c. search needs) loop-again (λ c. search needs) returns)

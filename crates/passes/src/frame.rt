@@ -1,0 +1,71 @@
+// What a drive's ray answers say: which wheels are grounded, how many, and on what.
+use body::GroundBody;
+use wheel::Ground;
+use wheel::RayAnswer;
+ghost use mathlib.Core.Path.{_≡_};
+ghost use Prim.Native.Nat.{ℕ, _+_, _*_, _<_, _≤_};
+ghost use lib.ListN.{length};
+ghost use Rattle.table.specs.Layout as at;
+ghost use Rattle.wheel.specs.Ray.{namedOf};
+ghost use Rattle.passes.specs.Frame.{answerAt, groundedAt, groundedWheels, groundNamed, groundAt};
+
+// Whether the ray of wheel i met something.
+pub fn is_grounded(answers: [RayAnswer; 16], i: usize) -> bool
+    requires { ⌜ i < at.WHEELS ⌝ }
+    ensures { λ r. ⌜ r ≡ groundedAt answers i ⌝ }
+{
+    let a = answers[i];
+    wheel::ray::is_grounded(a)
+}
+
+// How many of the first n wheels are grounded.
+pub fn count_grounded(answers: [RayAnswer; 16], n: usize) -> u8
+    requires { ⌜ n ≤ at.WHEELS ⌝ }
+    ensures { λ r. ⌜ r ≡ groundedWheels answers n ⌝ }
+{
+    let mut grounded: u8 = 0;
+    let mut i = 0usize;
+    while i < n {
+        let counted: u8 = if is_grounded(answers, i) { 1 } else { 0 };
+        grounded += counted;
+        i += 1usize;
+    }
+    grounded
+}
+
+// The number that an answer names its ground body by; 0 for none.
+pub fn named(answer: RayAnswer) -> u32
+    ensures { λ r. ⌜ r ≡ namedOf answer ⌝ }
+{
+    match answer {
+        RayAnswer::Nothing => 0,
+        RayAnswer::Hit(_, _, n) => n,
+        RayAnswer::HitUp(_, _, _, n) => n,
+    }
+}
+
+// The ground body of that number, by value.
+pub fn ground_named(bodies: &[f32], dynamic: &[bool], n: u32) -> Ground
+    requires { ⌜ (n ≤ length (now dynamic)) × (length (now dynamic) ≤ at.BODIES) × (length (now bodies) ≡ length (now dynamic) * at.BODY) ⌝ }
+    ensures { λ r. ⌜ r ≡ groundNamed (now (bodies .entry)) (now (dynamic .entry)) n ⌝ }
+{
+    if n == 0 {
+        Ground::Nothing
+    } else {
+        let i = (n - 1) as usize;
+        let b = table::rows::get_body(bodies, i);
+        Ground::On(GroundBody {
+            body: b,
+            dynamic: dynamic[i],
+        })
+    }
+}
+
+// The ground under wheel i.
+pub fn ground_at(bodies: &[f32], dynamic: &[bool], answers: [RayAnswer; 16], i: usize) -> Ground
+    requires { ⌜ (i < at.WHEELS) × (namedOf (answerAt answers i) ≤ length (now dynamic)) × (length (now dynamic) ≤ at.BODIES) × (length (now bodies) ≡ length (now dynamic) * at.BODY) ⌝ }
+    ensures { λ r. ⌜ r ≡ groundAt (now (bodies .entry)) (now (dynamic .entry)) answers i ⌝ }
+{
+    let a = answers[i];
+    ground_named(bodies, dynamic, named(a))
+}

@@ -1,0 +1,21 @@
+-- `refusals::ranges::are_sizes_in_range` meets its contract: each return gives the choice that the definition makes there. Assumes nothing.
+use lib.Ieee.{ofBits}
+use Rattle.lists.proofs.Picks.{picks}
+use Rattle.refusals.specs.Ranges.{sizesInRange}
+use Rattle.refusals.proofs.ranges.are_sizes_in_range.Statement.{statement}
+use Rattle.refusals.proofs.ranges.are_sizes_in_range.Tie as tie
+
+returns : tie.Need-returns
+unfolding sizesInRange ofBits
+returns c = search picks depth 40 fits 4000
+
+returns-2 : tie.Need-returns-2
+unfolding sizesInRange ofBits
+returns-2 c = search picks depth 40 fits 4000
+
+returns-3 : tie.Need-returns-3
+unfolding sizesInRange ofBits
+returns-3 c = search picks depth 40 fits 4000
+
+pub are-sizes-in-range-spec : {M : Type 1} → statement M
+are-sizes-in-range-spec = tie.close (tie.spec (λ c κs. tt) returns (λ c κs. tt) returns-2 returns-3)

@@ -1,0 +1,12 @@
+-- `refusals::ranges::sum_of_squares` meets its contract: the definition, replayed as the code runs. Assumes nothing.
+use mathlib.Core.Path.{refl}
+use Rattle.refusals.specs.Ranges.{squaresOf}
+use Rattle.refusals.proofs.ranges.sum_of_squares.Statement.{statement}
+use Rattle.refusals.proofs.ranges.sum_of_squares.Tie as tie
+
+returns : tie.Need-returns
+unfolding squaresOf
+returns c = refl
+
+pub sum-of-squares-spec : {M : Type 1} → statement M
+sum-of-squares-spec = tie.close (tie.spec returns)

@@ -1,0 +1,64 @@
+-- Document 01, refusals 2 and 6: the numbers that a call is handed, and the ray answers of a drive. Definitions only.
+use Prim.Native.Nat.{ℕ}
+use mathlib.Core.Bool.{Bool, true, false}
+use mathlib.Core.List.{List, [], _∷_, _++_}
+use lib.Dec.{leb}
+use lib.Ieee.{Float}
+use lib.ListN.{getD}
+use Rattle.lists.specs.Pick.{pick}
+use Rattle.lists.specs.Counted.{every}
+use Rattle.vector.specs.declared.Vector.{Vector}
+use Rattle.body.specs.declared.Chassis.{Chassis}
+use Rattle.wheel.specs.declared.Settings.{Settings}
+use Rattle.wheel.specs.declared.Controls.{Controls}
+use Rattle.wheel.specs.declared.RayAnswer.{RayAnswer}
+use Rattle.wheel.specs.declared.RayAnswer.the-variants.{Nothing, Hit, HitUp}
+use Rattle.table.specs.Rows.{vectorList, rotationList, chassisList}
+use Rattle.table.specs.Bounds.{allWithin, HANDED}
+use Rattle.refusals.specs.Ranges.{inUnit}
+
+-- ---- refusal 2: a number handed in is finite and at most 2^20 in magnitude
+unfoldable pub settingsHanded : Settings → Bool
+settingsHanded s =
+    allWithin HANDED
+    (vectorList (s .connection)
+    ++ vectorList (s .direction)
+    ++ vectorList (s .axle)
+    ++ (s .rest ∷ s .travel ∷ s .radius ∷ s .stiffness ∷ s .compression ∷ s .relaxation ∷ s .slip ∷ s .side ∷ s .most ∷ []))
+
+unfoldable pub controlsHanded : Controls → Bool
+controlsHanded c = allWithin HANDED (rotationList (c .steering) ++ (c .engine ∷ c .brake ∷ []))
+
+unfoldable pub chassisHanded : Chassis → Bool
+chassisHanded c = allWithin HANDED (chassisList c)
+
+unfoldable pub vectorHanded : Vector → Bool
+vectorHanded v = allWithin HANDED (vectorList v)
+
+-- the normals of an answer: the upward one too, whatever the time
+unfoldable pub normalsHanded : RayAnswer → Bool
+normalsHanded Nothing = true
+normalsHanded (Hit time normal named) = vectorHanded normal
+normalsHanded (HitUp time normal upward named) = pick (vectorHanded normal) (vectorHanded upward) false
+
+-- ---- refusal 6: a time is no NaN and from 0 to 1, and a named body is in the list of `bodies` bodies
+unfoldable pub hitOk : ℕ → Float → ℕ → Bool
+hitOk bodies time named = pick (inUnit time) (leb named bodies) false
+
+unfoldable pub answerOk : ℕ → RayAnswer → Bool
+answerOk bodies Nothing = true
+answerOk bodies (Hit time normal named) = hitOk bodies time named
+answerOk bodies (HitUp time normal upward named) = hitOk bodies time named
+
+-- ---- each of the first n answers
+unfoldable pub answerOkAt : ℕ → List RayAnswer → ℕ → Bool
+answerOkAt bodies answers i = answerOk bodies (getD answers i Nothing)
+
+unfoldable pub answersOk : ℕ → List RayAnswer → ℕ → Bool
+answersOk bodies answers n = every (answerOkAt bodies answers) n 0
+
+unfoldable pub normalsHandedAt : List RayAnswer → ℕ → Bool
+normalsHandedAt answers i = normalsHanded (getD answers i Nothing)
+
+unfoldable pub allNormalsHanded : List RayAnswer → ℕ → Bool
+allNormalsHanded answers n = every (normalsHandedAt answers) n 0

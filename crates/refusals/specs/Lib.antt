@@ -1,0 +1,4 @@
+pub mod Shape
+pub mod Ranges
+pub mod Handed
+pub mod After

@@ -1,0 +1,136 @@
+// Refusals 2 and 6: the numbers that a call is handed, and the ray answers of a drive.
+use super::ranges;
+use body::Chassis;
+use table::bounds::HANDED;
+use table::layout::KEPT;
+use vector::Vector;
+use wheel::Controls;
+use wheel::RayAnswer;
+use wheel::Settings;
+ghost use mathlib.Core.Path.{_≡_};
+ghost use Prim.Native.Nat.{_<_, _≤_};
+ghost use Rattle.table.specs.Layout as at;
+ghost use Rattle.refusals.specs.Handed.{settingsHanded, controlsHanded, chassisHanded, vectorHanded, normalsHanded, hitOk, answerOk, answerOkAt, answersOk, normalsHandedAt, allNormalsHanded};
+
+pub fn are_settings_handed(s: Settings) -> bool
+    ensures { λ r. ⌜ r ≡ settingsHanded s ⌝ }
+{
+    let c = s.connection;
+    let d = s.direction;
+    let a = s.axle;
+    let numbers = [
+        c.x,
+        c.y,
+        c.z,
+        d.x,
+        d.y,
+        d.z,
+        a.x,
+        a.y,
+        a.z,
+        s.rest,
+        s.travel,
+        s.radius,
+        s.stiffness,
+        s.compression,
+        s.relaxation,
+        s.slip,
+        s.side,
+        s.most,
+    ];
+    table::bounds::all_within(HANDED, &numbers)
+}
+
+pub fn are_controls_handed(c: Controls) -> bool
+    ensures { λ r. ⌜ r ≡ controlsHanded c ⌝ }
+{
+    let q = c.steering;
+    let b = q.b;
+    let numbers = [b.x, b.y, b.z, q.w, c.engine, c.brake];
+    table::bounds::all_within(HANDED, &numbers)
+}
+
+pub fn is_chassis_handed(c: Chassis) -> bool
+    ensures { λ r. ⌜ r ≡ chassisHanded c ⌝ }
+{
+    let mut numbers = [0.0; KEPT];
+    table::rows::write_chassis(&mut numbers, c);
+    table::bounds::all_within(HANDED, &numbers)
+}
+
+fn is_vector_handed(v: Vector) -> bool
+    ensures { λ r. ⌜ r ≡ vectorHanded v ⌝ }
+{
+    let numbers = [v.x, v.y, v.z];
+    table::bounds::all_within(HANDED, &numbers)
+}
+
+// Refusal 2, of an answer's normals.
+pub fn are_normals_handed(answer: RayAnswer) -> bool
+    ensures { λ r. ⌜ r ≡ normalsHanded answer ⌝ }
+{
+    match answer {
+        RayAnswer::Nothing => true,
+        RayAnswer::Hit(_, normal, _) => is_vector_handed(normal),
+        RayAnswer::HitUp(_, normal, upward, _) => {
+            if !is_vector_handed(normal) {
+                return false;
+            }
+            is_vector_handed(upward)
+        }
+    }
+}
+
+// Refusal 6, of one answer, with so many bodies in the list.
+pub fn is_answer_ok(bodies: u32, answer: RayAnswer) -> bool
+    ensures { λ r. ⌜ r ≡ answerOk bodies answer ⌝ }
+{
+    match answer {
+        RayAnswer::Nothing => true,
+        RayAnswer::Hit(time, _, named) => is_hit_ok(bodies, time, named),
+        RayAnswer::HitUp(time, _, _, named) => is_hit_ok(bodies, time, named),
+    }
+}
+
+fn is_hit_ok(bodies: u32, time: f32, named: u32) -> bool
+    ensures { λ r. ⌜ r ≡ hitOk bodies time named ⌝ }
+{
+    if !ranges::is_in_unit(time) {
+        return false;
+    }
+    named <= bodies
+}
+
+// Refusal 6, of each of the first n answers.
+pub fn are_answers_ok(bodies: u32, answers: [RayAnswer; 16], n: usize) -> bool
+    requires { ⌜ n ≤ at.WHEELS ⌝ }
+    ensures { λ r. ⌜ r ≡ answersOk bodies answers n ⌝ }
+{
+    let mut i = 0usize;
+    while i < n {
+        let a = answers[i];
+        if is_answer_ok(bodies, a) {
+            i += 1usize;
+        } else {
+            return false;
+        }
+    }
+    true
+}
+
+// Refusal 2, of the normals of each of the first n answers.
+pub fn are_all_normals_handed(answers: [RayAnswer; 16], n: usize) -> bool
+    requires { ⌜ n ≤ at.WHEELS ⌝ }
+    ensures { λ r. ⌜ r ≡ allNormalsHanded answers n ⌝ }
+{
+    let mut i = 0usize;
+    while i < n {
+        let a = answers[i];
+        if are_normals_handed(a) {
+            i += 1usize;
+        } else {
+            return false;
+        }
+    }
+    true
+}

@@ -1,0 +1,3 @@
+-- The laws that proofs over the table cite.
+pub mod Laws
+pub mod Within

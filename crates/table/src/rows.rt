@@ -1,0 +1,360 @@
+// A wheel as a row of the table, the kept chassis, and a lent ground body: numbers into values and back.
+use super::layout::*;
+use body::Body;
+use body::Chassis;
+use vector::Inertia;
+use vector::Pose;
+use vector::Rotation;
+use vector::Vector;
+use wheel::Approach;
+use wheel::Controls;
+use wheel::Motion;
+use wheel::Place;
+use wheel::RayCastInfo;
+use wheel::Settings;
+use wheel::Wheel;
+ghost use mathlib.Core.Path.{_≡_};
+ghost use Prim.Native.Nat.{ℕ, _+_, _*_, _<_, _≤_};
+ghost use lib.ListN.{length};
+ghost use Rattle.table.specs.Layout as at;
+ghost use Rattle.table.specs.Rows.{vectorAt, rotationAt, inertiaAt, infoOf, placeOf, settingsOf, controlsOf, approachIn, motionOf, wheelOf, rowOf, wheelAt, putWheel, chassisOf, chassisList, chassisAt, putChassis, bodyOf, bodyAt};
+
+// Copies src over dst.
+pub fn copy(dst: &mut [f32], src: &[f32])
+    requires { ⌜ length (now dst) ≡ length (now src) ⌝ }
+    ensures { λ _. ⌜ now (dst .exit) ≡ now (src .entry) ⌝ }
+{
+    let mut i = 0usize;
+    while i < src.len() {
+        dst[i] = src[i];
+        i += 1usize;
+    }
+}
+
+pub fn vector_at(l: &[f32], a: usize) -> Vector
+    requires { ⌜ a + 2 < length (now l) ⌝ }
+    ensures { λ r. ⌜ r ≡ vectorAt (now (l .entry)) a ⌝ }
+{
+    Vector {
+        x: l[a],
+        y: l[a + 1],
+        z: l[a + 2],
+    }
+}
+
+pub fn rotation_at(l: &[f32], a: usize) -> Rotation
+    requires { ⌜ a + 3 < length (now l) ⌝ }
+    ensures { λ r. ⌜ r ≡ rotationAt (now (l .entry)) a ⌝ }
+{
+    let b = vector_at(l, a);
+    Rotation { b, w: l[a + 3] }
+}
+
+pub fn inertia_at(l: &[f32], a: usize) -> Inertia
+    requires { ⌜ a + 5 < length (now l) ⌝ }
+    ensures { λ r. ⌜ r ≡ inertiaAt (now (l .entry)) a ⌝ }
+{
+    Inertia {
+        xx: l[a],
+        xy: l[a + 1],
+        xz: l[a + 2],
+        yy: l[a + 3],
+        yz: l[a + 4],
+        zz: l[a + 5],
+    }
+}
+
+pub fn read_info(row: &[f32]) -> RayCastInfo
+    requires { ⌜ length (now row) ≡ at.ROW ⌝ }
+    ensures { λ r. ⌜ r ≡ infoOf (now (row .entry)) ⌝ }
+{
+    RayCastInfo {
+        normal: vector_at(row, NORMAL),
+        point: vector_at(row, POINT),
+        length: row[LENGTH],
+        hard: vector_at(row, HARD),
+    }
+}
+
+pub fn read_place(row: &[f32]) -> Place
+    requires { ⌜ length (now row) ≡ at.ROW ⌝ }
+    ensures { λ r. ⌜ r ≡ placeOf (now (row .entry)) ⌝ }
+{
+    Place {
+        centre: vector_at(row, CENTRE),
+        direction: vector_at(row, WORLD_DIRECTION),
+        axle: vector_at(row, WORLD_AXLE),
+    }
+}
+
+pub fn read_settings(row: &[f32]) -> Settings
+    requires { ⌜ length (now row) ≡ at.ROW ⌝ }
+    ensures { λ r. ⌜ r ≡ settingsOf (now (row .entry)) ⌝ }
+{
+    Settings {
+        connection: vector_at(row, CONNECTION),
+        direction: vector_at(row, DIRECTION),
+        axle: vector_at(row, AXLE),
+        rest: row[REST],
+        travel: row[TRAVEL],
+        radius: row[RADIUS],
+        stiffness: row[STIFFNESS],
+        compression: row[COMPRESSION],
+        relaxation: row[RELAXATION],
+        slip: row[SLIP],
+        side: row[SIDE_STIFFNESS],
+        most: row[MOST],
+    }
+}
+
+pub fn read_controls(row: &[f32]) -> Controls
+    requires { ⌜ length (now row) ≡ at.ROW ⌝ }
+    ensures { λ r. ⌜ r ≡ controlsOf (now (row .entry)) ⌝ }
+{
+    Controls {
+        steering: rotation_at(row, STEERING),
+        engine: row[ENGINE],
+        brake: row[BRAKE],
+    }
+}
+
+pub fn read_approach(row: &[f32]) -> Approach
+    requires { ⌜ length (now row) ≡ at.ROW ⌝ }
+    ensures { λ r. ⌜ r ≡ approachIn (now (row .entry)) ⌝ }
+{
+    Approach {
+        velocity: row[VELOCITY],
+        inverse: row[INVERSE],
+    }
+}
+
+pub fn read_motion(row: &[f32]) -> Motion
+    requires { ⌜ length (now row) ≡ at.ROW ⌝ }
+    ensures { λ r. ⌜ r ≡ motionOf (now (row .entry)) ⌝ }
+{
+    Motion {
+        rotation: row[ROTATION],
+        spin: row[SPIN],
+        force: row[FORCE],
+        forward: row[FORWARD_IMPULSE],
+        side: row[SIDE_IMPULSE],
+        skid: row[SKID],
+    }
+}
+
+// A row as a wheel.
+pub fn read_row(row: &[f32]) -> Wheel
+    requires { ⌜ length (now row) ≡ at.ROW ⌝ }
+    ensures { λ r. ⌜ r ≡ wheelOf (now (row .entry)) ⌝ }
+{
+    let info = read_info(row);
+    let place = read_place(row);
+    let settings = read_settings(row);
+    let controls = read_controls(row);
+    let approach = read_approach(row);
+    let motion = read_motion(row);
+    Wheel {
+        info,
+        place,
+        settings,
+        controls,
+        approach,
+        motion,
+    }
+}
+
+// A wheel over a row.
+pub fn write_row(row: &mut [f32], w: Wheel)
+    requires { ⌜ length (now row) ≡ at.ROW ⌝ }
+    ensures { λ _. ⌜ now (row .exit) ≡ rowOf w ⌝ }
+{
+    let i = w.info;
+    let p = w.place;
+    let s = w.settings;
+    let q = w.controls;
+    let a = w.approach;
+    let m = w.motion;
+    let numbers = [
+        i.normal.x,
+        i.normal.y,
+        i.normal.z,
+        i.point.x,
+        i.point.y,
+        i.point.z,
+        i.length,
+        i.hard.x,
+        i.hard.y,
+        i.hard.z,
+        p.centre.x,
+        p.centre.y,
+        p.centre.z,
+        p.direction.x,
+        p.direction.y,
+        p.direction.z,
+        p.axle.x,
+        p.axle.y,
+        p.axle.z,
+        s.connection.x,
+        s.connection.y,
+        s.connection.z,
+        s.direction.x,
+        s.direction.y,
+        s.direction.z,
+        s.axle.x,
+        s.axle.y,
+        s.axle.z,
+        s.rest,
+        s.travel,
+        s.radius,
+        s.stiffness,
+        s.compression,
+        s.relaxation,
+        s.slip,
+        s.side,
+        m.rotation,
+        m.spin,
+        s.most,
+        m.forward,
+        m.side,
+        q.steering.b.x,
+        q.steering.b.y,
+        q.steering.b.z,
+        q.steering.w,
+        q.engine,
+        q.brake,
+        a.inverse,
+        a.velocity,
+        m.force,
+        m.skid,
+    ];
+    copy(row, &numbers);
+}
+
+// Wheel i of the table.
+pub fn get_wheel(table: &[f32], i: usize) -> Wheel
+    requires { ⌜ (length (now table) ≡ at.SIZE) × (i < at.WHEELS) ⌝ }
+    ensures { λ r. ⌜ r ≡ wheelAt (now (table .entry)) i ⌝ }
+{
+    let a = KEPT + i * ROW;
+    let e = a + ROW;
+    read_row(&table[a..e])
+}
+
+// The table with another wheel i: its row is lent on as a part of the table.
+pub fn put_wheel(table: &mut [f32], i: usize, w: Wheel)
+    requires { ⌜ (length (now table) ≡ at.SIZE) × (i < at.WHEELS) ⌝ }
+    ensures { λ _. ⌜ now (table .exit) ≡ putWheel (now (table .entry)) i w ⌝ }
+{
+    let a = KEPT + i * ROW;
+    let e = a + ROW;
+    write_row(&mut table[a..e], w);
+}
+
+pub fn read_chassis(l: &[f32]) -> Chassis
+    requires { ⌜ length (now l) ≡ at.KEPT ⌝ }
+    ensures { λ r. ⌜ r ≡ chassisOf (now (l .entry)) ⌝ }
+{
+    let translation = vector_at(l, TRANSLATION);
+    let rotation = rotation_at(l, ORIENTATION);
+    let centre = vector_at(l, MASS_CENTRE);
+    let linvel = vector_at(l, LINVEL);
+    let angvel = vector_at(l, ANGVEL);
+    let inertia = inertia_at(l, INERTIA);
+    let effective = vector_at(l, EFFECTIVE);
+    Chassis {
+        pose: Pose {
+            translation,
+            rotation,
+        },
+        body: Body {
+            centre,
+            linvel,
+            angvel,
+            invmass: l[INVMASS],
+            inertia,
+        },
+        effective,
+    }
+}
+
+pub fn write_chassis(l: &mut [f32], c: Chassis)
+    requires { ⌜ length (now l) ≡ at.KEPT ⌝ }
+    ensures { λ _. ⌜ now (l .exit) ≡ chassisList c ⌝ }
+{
+    let p = c.pose;
+    let b = c.body;
+    let e = c.effective;
+    let i = b.inertia;
+    let numbers = [
+        p.translation.x,
+        p.translation.y,
+        p.translation.z,
+        p.rotation.b.x,
+        p.rotation.b.y,
+        p.rotation.b.z,
+        p.rotation.w,
+        b.centre.x,
+        b.centre.y,
+        b.centre.z,
+        b.linvel.x,
+        b.linvel.y,
+        b.linvel.z,
+        b.angvel.x,
+        b.angvel.y,
+        b.angvel.z,
+        b.invmass,
+        e.x,
+        e.y,
+        e.z,
+        i.xx,
+        i.xy,
+        i.xz,
+        i.yy,
+        i.yz,
+        i.zz,
+    ];
+    copy(l, &numbers);
+}
+
+// The kept chassis of the table.
+pub fn get_chassis(table: &[f32]) -> Chassis
+    requires { ⌜ length (now table) ≡ at.SIZE ⌝ }
+    ensures { λ r. ⌜ r ≡ chassisAt (now (table .entry)) ⌝ }
+{
+    read_chassis(&table[0..KEPT])
+}
+
+// The table with another chassis.
+pub fn put_chassis(table: &mut [f32], c: Chassis)
+    requires { ⌜ length (now table) ≡ at.SIZE ⌝ }
+    ensures { λ _. ⌜ now (table .exit) ≡ putChassis (now (table .entry)) c ⌝ }
+{
+    write_chassis(&mut table[0..KEPT], c);
+}
+
+pub fn read_body(l: &[f32]) -> Body
+    requires { ⌜ length (now l) ≡ at.BODY ⌝ }
+    ensures { λ r. ⌜ r ≡ bodyOf (now (l .entry)) ⌝ }
+{
+    let centre = vector_at(l, BODY_CENTRE);
+    let linvel = vector_at(l, BODY_LINVEL);
+    let angvel = vector_at(l, BODY_ANGVEL);
+    let inertia = inertia_at(l, BODY_INERTIA);
+    Body {
+        centre,
+        linvel,
+        angvel,
+        invmass: l[BODY_INVMASS],
+        inertia,
+    }
+}
+
+// Ground body i of a lent list.
+pub fn get_body(l: &[f32], i: usize) -> Body
+    requires { ⌜ (i < at.BODIES) × (i * at.BODY + at.BODY ≤ length (now l)) ⌝ }
+    ensures { λ r. ⌜ r ≡ bodyAt (now (l .entry)) i ⌝ }
+{
+    let a = i * BODY;
+    let e = a + BODY;
+    read_body(&l[a..e])
+}

@@ -1,0 +1,65 @@
+//! Scenario streams for comparing two programs, each determined by its kind and seed.
+//!
+//! The generators use only +, −, ×, ÷ and the root, so that the same seed gives the same bytes
+//! on every machine.
+#![forbid(unsafe_code)]
+
+mod bad;
+mod broken;
+mod car;
+mod edge;
+mod parts;
+mod random;
+mod rubbish;
+mod script;
+mod turning;
+mod wild;
+
+use random::Random;
+
+pub use rubbish::{rubbish, Rubbish};
+
+/// What a scenario is like.
+#[derive(Copy, Clone, Debug, PartialEq)]
+pub enum Kind {
+    /// A car over many frames that hang together.
+    Car,
+    /// Numbers, counts and demands at the ends of what is accepted.
+    Edge,
+    /// Wild finite numbers in wild orders of calls.
+    Wild,
+    /// Numbers that are not finite, too large or out of range; wrong counts.
+    Bad,
+    /// Streams that are cut or have a malformed place.
+    Broken,
+}
+
+impl Kind {
+    pub const ALL: [Kind; 5] = [Kind::Car, Kind::Edge, Kind::Wild, Kind::Bad, Kind::Broken];
+
+    pub fn name(self) -> &'static str {
+        match self {
+            Kind::Car => "car",
+            Kind::Edge => "edge",
+            Kind::Wild => "wild",
+            Kind::Bad => "bad",
+            Kind::Broken => "broken",
+        }
+    }
+
+    pub fn named(name: &str) -> Option<Kind> {
+        Kind::ALL.into_iter().find(|kind| kind.name() == name)
+    }
+}
+
+/// The bytes of the scenario of this kind and seed.
+pub fn generate(kind: Kind, seed: u64) -> Vec<u8> {
+    let mut random = Random::new(kind as u64, seed);
+    match kind {
+        Kind::Car => car::scenario(&mut random),
+        Kind::Edge => edge::scenario(&mut random, seed),
+        Kind::Wild => wild::scenario(&mut random),
+        Kind::Bad => bad::scenario(&mut random, seed),
+        Kind::Broken => broken::scenario(&mut random, seed),
+    }
+}

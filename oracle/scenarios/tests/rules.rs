@@ -1,0 +1,390 @@
+//! Rules 1 to 10 once more, written from document 01's text alone, against the Rust source's own
+//! steps: where the two differed, the text and the source would not say the same.
+
+use scenarios::{generate, rubbish, Kind};
+use vehicle::handed::{Chassis, Drive, GroundBody, Hit};
+use vehicle::math::{Inertia, Vector};
+use vehicle::program::call;
+use vehicle::row::{self, Row};
+use vehicle::stream::{Code, Reader};
+use vehicle::table::{Table, ACCEPTED};
+use vehicle::utils::inv;
+
+/// The table after a call that is accepted.
+fn by_the_rules(table: &Table, code: &Code) -> Option<Table> {
+    match code {
+        Code::Aim(chassis) => Some(aim(table, chassis)),
+        Code::Drive(drive) => Some(Driving::new(table, drive).run()),
+        _ => None,
+    }
+}
+
+fn put(row: &mut Row, place: usize, vector: Vector) {
+    row.0[place..place + 3].copy_from_slice(&vector.parts());
+}
+
+/// Rule 1.
+fn aim(table: &Table, chassis: &Chassis) -> Table {
+    let mut after = table.clone();
+    after.mark = 1;
+    after.numbers[..row::CHASSIS].copy_from_slice(&chassis.numbers());
+    for wheel in 0..table.count as usize {
+        let mut row = table.row(wheel);
+        let turn = chassis.pose.rotation;
+        let hard_point = &chassis.pose * row.vector(row::CONNECTION_POINT);
+        let direction = turn * row.vector(row::DIRECTION);
+        let axle = row.steering() * (turn * row.vector(row::AXLE));
+        let center = hard_point + direction * row.0[row::SUSPENSION_LENGTH];
+        put(&mut row, row::HARD_POINT, hard_point);
+        put(&mut row, row::CENTER, center);
+        put(&mut row, row::WORLD_DIRECTION, direction);
+        put(&mut row, row::WORLD_AXLE, axle);
+        after.set_row(wheel, &row);
+    }
+    after
+}
+
+/// A body as rules 7 and 9 see it.
+#[derive(Copy, Clone)]
+struct Body {
+    center: Vector,
+    linear: Vector,
+    angular: Vector,
+    inverse_mass: f32,
+    inertia: Inertia,
+}
+
+impl Body {
+    fn of_chassis(chassis: &Chassis) -> Body {
+        Body {
+            center: chassis.center_of_mass,
+            linear: chassis.linear,
+            angular: chassis.angular,
+            inverse_mass: chassis.inverse_mass,
+            inertia: chassis.inertia(),
+        }
+    }
+
+    fn of_ground(body: &GroundBody) -> Body {
+        Body {
+            center: body.center_of_mass,
+            linear: body.linear,
+            angular: body.angular,
+            inverse_mass: body.inverse_mass,
+            inertia: Inertia::from_parts(body.inverse_inertia),
+        }
+    }
+
+    fn velocity_at(&self, point: Vector) -> Vector {
+        self.linear + self.angular.cross(point - self.center)
+    }
+
+    /// |I(d × axis)|².
+    fn turn_square(&self, point: Vector, axis: Vector) -> f32 {
+        let turned = self.inertia * (point - self.center).cross(axis);
+        turned.dot(turned)
+    }
+
+    /// Inverse mass + n·((I(d×n))×d).
+    fn denominator(&self, point: Vector, n: Vector) -> f32 {
+        let d = point - self.center;
+        self.inverse_mass + n.dot((self.inertia * d.cross(n)).cross(d))
+    }
+}
+
+struct Driving<'a> {
+    drive: &'a Drive,
+    table: Table,
+    rows: Vec<Row>,
+    kept: Chassis,
+    chassis: Body,
+}
+
+impl<'a> Driving<'a> {
+    fn new(table: &Table, drive: &'a Drive) -> Self {
+        let kept = table.chassis();
+        Driving {
+            drive,
+            table: table.clone(),
+            rows: (0..table.count as usize).map(|wheel| table.row(wheel)).collect(),
+            kept,
+            chassis: Body::of_chassis(&kept),
+        }
+    }
+
+    fn run(mut self) -> Table {
+        for wheel in 0..self.rows.len() {
+            self.contact(wheel);
+        }
+        for wheel in 0..self.rows.len() {
+            self.force(wheel);
+        }
+        for wheel in 0..self.rows.len() {
+            self.spring_impulse(wheel);
+        }
+        let directions: Vec<(Vector, Vector)> =
+            (0..self.rows.len()).map(|wheel| self.directions(wheel)).collect();
+        for (wheel, directions) in directions.iter().enumerate() {
+            self.demands(wheel, *directions);
+        }
+        for wheel in 0..self.rows.len() {
+            self.slide(wheel);
+        }
+        for (wheel, directions) in directions.iter().enumerate() {
+            self.friction_impulses(wheel, *directions);
+        }
+        for wheel in 0..self.rows.len() {
+            self.spin(wheel);
+        }
+        let Body { linear, angular, .. } = self.chassis;
+        let new = Chassis { linear, angular, ..self.kept };
+        let mut table = self.table;
+        table.numbers[..row::CHASSIS].copy_from_slice(&new.numbers());
+        for (wheel, row) in self.rows.iter().enumerate() {
+            table.set_row(wheel, row);
+        }
+        table.mark = 2;
+        table
+    }
+
+    /// Rules 3 to 5.
+    fn contact(&mut self, wheel: usize) {
+        let row = &mut self.rows[wheel];
+        let direction = row.vector(row::WORLD_DIRECTION);
+        let source = row.vector(row::HARD_POINT);
+        let (rest, radius) = (row.0[row::REST_LENGTH], row.0[row::RADIUS]);
+        let travel = row.0[row::TRAVEL];
+        let ray = direction * (rest + radius);
+        let Some(hit) = self.drive.answers[wheel] else {
+            put(row, row::CONTACT_POINT, source + ray);
+            put(row, row::CONTACT_NORMAL, -direction);
+            row.0[row::SUSPENSION_LENGTH] = rest;
+            row.0[row::RELATIVE_VELOCITY] = 0.0;
+            row.0[row::CLIPPED_INVERSE] = 1.0;
+            return;
+        };
+        let normal = ground_normal(&hit, direction);
+        let length = hit.time * (rest + radius) - radius;
+        let length = length.max(rest - travel).min(rest + travel);
+        let point = source + ray * hit.time;
+        let dot = normal.dot(direction);
+        let (velocity, inverse) = if dot >= -0.1 {
+            (0.0, 1.0 / 0.1)
+        } else {
+            let inverse = -1.0 / dot;
+            (normal.dot(self.chassis.velocity_at(point)) * inverse, inverse)
+        };
+        put(row, row::CONTACT_POINT, point);
+        put(row, row::CONTACT_NORMAL, normal);
+        row.0[row::SUSPENSION_LENGTH] = length;
+        row.0[row::RELATIVE_VELOCITY] = velocity;
+        row.0[row::CLIPPED_INVERSE] = inverse;
+    }
+
+    /// Rule 6, the force.
+    fn force(&mut self, wheel: usize) {
+        let grounded = self.grounded(wheel);
+        let row = &mut self.rows[wheel];
+        let velocity = row.0[row::RELATIVE_VELOCITY];
+        let damping = if velocity < 0.0 { row.0[row::COMPRESSION] } else { row.0[row::RELAXATION] };
+        let pressed = row.0[row::REST_LENGTH] - row.0[row::SUSPENSION_LENGTH];
+        let spring = row.0[row::STIFFNESS] * pressed * row.0[row::CLIPPED_INVERSE];
+        let force = (spring - damping * velocity) * inv(self.chassis.inverse_mass);
+        row.0[row::SUSPENSION_FORCE] = if grounded && force > 0.0 { force } else { 0.0 };
+    }
+
+    /// Rule 6, the impulse.
+    fn spring_impulse(&mut self, wheel: usize) {
+        let row = self.rows[wheel];
+        let force = row.0[row::SUSPENSION_FORCE];
+        let most = row.0[row::MAX_FORCE];
+        let cut = if force > most { most } else { force };
+        let impulse = row.vector(row::CONTACT_NORMAL) * cut * self.drive.dt;
+        self.apply(impulse, row.vector(row::CONTACT_POINT));
+    }
+
+    /// Rule 7: the axis and the forward direction.
+    fn directions(&self, wheel: usize) -> (Vector, Vector) {
+        let row = &self.rows[wheel];
+        let axle = row.vector(row::WORLD_AXLE);
+        let normal = row.vector(row::CONTACT_NORMAL);
+        let axis = (axle - normal * axle.dot(normal)).normalize_or_zero();
+        (axis, normal.cross(axis).normalize_or_zero())
+    }
+
+    /// Rule 7: both demands.
+    fn demands(&mut self, wheel: usize, (axis, forward): (Vector, Vector)) {
+        let demands = self.drive.answers[wheel].map(|hit| {
+            (self.rolling_demand(wheel, forward, &hit), self.side_demand(wheel, axis, &hit))
+        });
+        let (rolling, side) = demands.unwrap_or((0.0, 0.0));
+        self.rows[wheel].0[row::FORWARD_IMPULSE] = rolling;
+        self.rows[wheel].0[row::SIDE_IMPULSE] = side;
+    }
+
+    fn named(&self, hit: &Hit) -> Option<&GroundBody> {
+        hit.body.and_then(|body| self.drive.bodies.get(body as usize))
+    }
+
+    fn side_demand(&self, wheel: usize, axis: Vector, hit: &Hit) -> f32 {
+        let row = &self.rows[wheel];
+        let point = row.vector(row::CONTACT_POINT);
+        let ground = self.named(hit).filter(|body| body.dynamic).map(Body::of_ground);
+        let mut u = self.chassis.velocity_at(point);
+        let mut sum = self.chassis.inverse_mass;
+        if let Some(ground) = &ground {
+            u -= ground.velocity_at(point);
+            sum += ground.inverse_mass;
+        }
+        sum += self.chassis.turn_square(point, axis);
+        if let Some(ground) = &ground {
+            sum += ground.turn_square(point, axis);
+        }
+        (-0.2 * axis.dot(u)) * inv(sum) * row.0[row::SIDE_STIFFNESS]
+    }
+
+    fn rolling_demand(&self, wheel: usize, forward: Vector, hit: &Hit) -> f32 {
+        let row = &self.rows[wheel];
+        let engine = row.0[row::ENGINE];
+        if engine != 0.0 {
+            return engine * self.drive.dt;
+        }
+        let point = row.vector(row::CONTACT_POINT);
+        let mut u = self.chassis.velocity_at(point);
+        let mut sum = self.chassis.denominator(point, forward);
+        if let Some(ground) = self.named(hit).map(Body::of_ground) {
+            u -= ground.velocity_at(point);
+            sum += ground.denominator(point, forward);
+        }
+        let grounded = self.drive.answers.iter().flatten().count() as f32;
+        let brake = row.0[row::BRAKE];
+        let uncut = -forward.dot(u) * (1.0 / sum) / grounded;
+        uncut.clamp(-brake.abs(), brake.abs())
+    }
+
+    /// Rule 8.
+    fn slide(&mut self, wheel: usize) {
+        let grounded = self.grounded(wheel);
+        let dt = self.drive.dt;
+        let row = &mut self.rows[wheel];
+        row.0[row::SKID] = 1.0;
+        if !grounded {
+            return;
+        }
+        let (forward, side) = (row.0[row::FORWARD_IMPULSE], row.0[row::SIDE_IMPULSE]);
+        let limit = row.0[row::SUSPENSION_FORCE] * dt * row.0[row::SLIP];
+        let left = (forward * 0.5) * (forward * 0.5) + side * side;
+        if left > limit * limit {
+            let skid = limit * inv(left.sqrt());
+            row.0[row::SKID] = skid;
+            if skid < 1.0 {
+                row.0[row::FORWARD_IMPULSE] = forward * skid;
+                row.0[row::SIDE_IMPULSE] = side * skid;
+            }
+        }
+    }
+
+    /// Rule 9.
+    fn friction_impulses(&mut self, wheel: usize, (axis, forward): (Vector, Vector)) {
+        if !self.grounded(wheel) {
+            return;
+        }
+        let row = self.rows[wheel];
+        let point = row.vector(row::CONTACT_POINT);
+        self.apply(forward * row.0[row::FORWARD_IMPULSE], point);
+        let mut up_axis = [0.0; 3];
+        up_axis[self.table.up as usize] = 1.0;
+        let up = self.kept.pose.rotation * Vector::new(up_axis[0], up_axis[1], up_axis[2]);
+        let lift = up.dot(point - self.chassis.center) * (1.0 - 0.1);
+        self.apply(axis * row.0[row::SIDE_IMPULSE], point - up * lift);
+    }
+
+    /// Rule 10.
+    fn spin(&mut self, wheel: usize) {
+        let grounded = self.grounded(wheel);
+        let row = &mut self.rows[wheel];
+        let mut spin = row.0[row::DELTA_ROTATION];
+        if grounded {
+            let normal = row.vector(row::CONTACT_NORMAL);
+            let rolling = normal.cross(row.vector(row::WORLD_AXLE)).normalize_or_zero();
+            let velocity = self.chassis.velocity_at(row.vector(row::HARD_POINT));
+            spin = rolling.dot(velocity) * self.drive.dt / row.0[row::RADIUS];
+        }
+        row.0[row::ROTATION] += spin;
+        row.0[row::DELTA_ROTATION] = spin * 0.99;
+    }
+
+    fn grounded(&self, wheel: usize) -> bool {
+        self.drive.answers[wheel].is_some()
+    }
+
+    fn apply(&mut self, impulse: Vector, point: Vector) {
+        let turn = self.chassis.inertia * (point - self.chassis.center).cross(impulse);
+        let masses = self.kept.effective_inverse_masses;
+        self.chassis.linear += impulse.times_parts(masses);
+        self.chassis.angular += turn;
+    }
+}
+
+/// Rule 3.
+fn ground_normal(hit: &Hit, direction: Vector) -> Vector {
+    if hit.time != 0.0 {
+        return hit.normal;
+    }
+    let normal = hit.upward_normal.map_or(hit.normal, |upward| -upward);
+    if normal == Vector::ZERO {
+        -direction
+    } else {
+        normal
+    }
+}
+
+/// Bits with both zeros equal.
+fn bits(table: &Table) -> Vec<u32> {
+    let whole = [table.count, table.mark, table.up, table.forward];
+    let numbers = table.numbers.iter().map(|number| (number + 0.0).to_bits());
+    whole.into_iter().chain(numbers).collect()
+}
+
+/// Runs the codes and holds every accepted aim and drive against the rules. Gives their number.
+fn hold(mut table: Table, codes: &[Code], what: &str) -> usize {
+    let mut held = 0;
+    for code in codes {
+        let before = table.clone();
+        if call(&mut table, code).answer != ACCEPTED {
+            continue;
+        }
+        if let Some(expected) = by_the_rules(&before, code) {
+            assert_eq!(bits(&table), bits(&expected), "{what}: {code:?}");
+            held += 1;
+        }
+    }
+    held
+}
+
+fn codes_of(stream: &[u8]) -> Vec<Code> {
+    let mut reader = Reader::new(stream);
+    std::iter::from_fn(|| reader.code().ok().filter(|code| *code != Code::End)).collect()
+}
+
+#[test]
+fn scenarios_follow_the_rules() {
+    let mut held = 0;
+    for kind in Kind::ALL {
+        for seed in 0..300 {
+            let codes = codes_of(&generate(kind, seed));
+            held += hold(Table::new(), &codes, &format!("{} {seed}", kind.name()));
+        }
+    }
+    assert!(held > 10_000, "{held}");
+}
+
+#[test]
+fn tables_of_rubbish_follow_the_rules() {
+    let mut held = 0;
+    for seed in 0..4000 {
+        let scenarios::Rubbish { table, codes } = rubbish(seed);
+        held += hold(table, &codes, &format!("rubbish {seed}"));
+    }
+    assert!(held > 1000, "{held}");
+}

@@ -1,0 +1,138 @@
+//! The scenario program: a stream in, a line for each code out.
+
+use std::fmt::Write;
+
+use crate::stream::{Code, Malformed, Reader};
+use crate::table::{Grip, Table, ACCEPTED, MALFORMED};
+
+/// The first line of every output.
+pub const TITLE: &str = "vehicle 1";
+
+/// What one code gave.
+#[derive(Clone, Debug, PartialEq)]
+pub struct Line {
+    pub code: u32,
+    pub answer: u32,
+    /// The results of an accepted call, as bit patterns.
+    pub results: Vec<u32>,
+    /// How an accepted drive went for each wheel; not printed.
+    pub grips: Vec<Grip>,
+}
+
+impl Line {
+    fn plain(code: u32, answer: u32) -> Line {
+        Line { code, answer, results: Vec::new(), grips: Vec::new() }
+    }
+
+    /// A code's line; the results of a refused call are zeros and are not shown.
+    fn with_results(code: u32, answer: u32, results: Vec<u32>) -> Line {
+        let results = if answer == ACCEPTED { results } else { Vec::new() };
+        Line { results, ..Line::plain(code, answer) }
+    }
+
+    pub fn text(&self) -> String {
+        let mut text = format!("{} {}", self.code, self.answer);
+        for word in &self.results {
+            // Writing to a string cannot fail.
+            let _ = write!(text, " {word:08x}");
+        }
+        text
+    }
+}
+
+/// Makes the call of one code.
+pub fn call(table: &mut Table, code: &Code) -> Line {
+    match code {
+        Code::End => Line::plain(0, ACCEPTED),
+        Code::Add(wheel) => Line::plain(1, table.add_wheel(wheel)),
+        Code::Controls(wheel, controls) => Line::plain(2, table.set_controls(*wheel, controls)),
+        Code::Aim(chassis) => {
+            let aimed = table.aim(chassis);
+            let mut floats = vec![aimed.speed];
+            for (hard_point, ray) in &aimed.rays {
+                floats.extend(hard_point.parts());
+                floats.extend(ray.parts());
+            }
+            Line::with_results(3, aimed.answer, words(&floats))
+        }
+        Code::Drive(drive) => {
+            let driven = table.drive(drive);
+            let mut results = words(&driven.linear.parts());
+            results.extend(words(&driven.angular.parts()));
+            results.push(u32::from(driven.wake));
+            Line { grips: driven.grips, ..Line::with_results(4, driven.answer, results) }
+        }
+        Code::Read(wheel) => {
+            let read = table.read_wheel(*wheel);
+            let mut floats = Vec::new();
+            for vector in [read.center, read.world_direction, read.world_axle] {
+                floats.extend(vector.parts());
+            }
+            floats.extend([
+                read.suspension_length,
+                read.suspension_force,
+                read.forward_impulse,
+                read.side_impulse,
+                read.skid,
+                read.rotation,
+            ]);
+            Line::with_results(5, read.answer, words(&floats))
+        }
+    }
+}
+
+fn words(floats: &[f32]) -> Vec<u32> {
+    floats.iter().map(|float| float.to_bits()).collect()
+}
+
+/// Runs a stream of codes on a table, to code 0 or the first malformed place.
+pub fn run_on(table: &mut Table, reader: &mut Reader) -> Vec<Line> {
+    let mut lines = Vec::new();
+    loop {
+        match reader.code() {
+            Ok(code) => {
+                lines.push(call(table, &code));
+                if code == Code::End {
+                    return lines;
+                }
+            }
+            Err(Malformed { code }) => {
+                lines.push(Line::plain(code, MALFORMED));
+                return lines;
+            }
+        }
+    }
+}
+
+/// Runs a scenario on a table that is set up with axes 1 and 0.
+pub fn run(stream: &[u8]) -> Vec<Line> {
+    run_on(&mut Table::new(), &mut Reader::new(stream))
+}
+
+/// The title and the lines, each ended by a line feed.
+pub fn text(lines: &[Line]) -> String {
+    let mut text = format!("{TITLE}\n");
+    for line in lines {
+        text += &line.text();
+        text.push('\n');
+    }
+    text
+}
+
+/// Runs codes on a table that is itself handed in before them, and shows it afterwards in the
+/// line `table`: count, mark, up and forward axis and the bit pattern of each float, all in hex.
+pub fn run_on_state(stream: &[u8]) -> String {
+    let mut reader = Reader::new(stream);
+    let mut table = match reader.table() {
+        Ok(table) => table,
+        Err(Malformed { code }) => return text(&[Line::plain(code, MALFORMED)]),
+    };
+    let lines = run_on(&mut table, &mut reader);
+    let mut text = text(&lines);
+    text += "table";
+    for token in crate::stream::table_tokens(&table) {
+        let _ = write!(text, " {:08x}", token.value());
+    }
+    text.push('\n');
+    text
+}

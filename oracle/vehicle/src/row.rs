@@ -1,0 +1,91 @@
+//! Where each number stands in the lent table: the kept chassis, then 16 wheel rows.
+//!
+//! A row holds the numbers of `Wheel` and `RayCastInfo` in their declared order. Contact, ground
+//! object and roll influence are not kept; steering is kept as a rotation.
+
+use std::ops::Range;
+
+use crate::math::{Real, Rotation, Vector};
+
+/// Wheels that a table has room for.
+pub const WHEELS: usize = 16;
+/// Numbers of the kept chassis.
+pub const CHASSIS: usize = 26;
+/// Numbers of one wheel's row.
+pub const ROW: usize = 51;
+/// Numbers of a table.
+pub const TABLE: usize = CHASSIS + WHEELS * ROW;
+/// Numbers of a row but for its steering: those that the source's `Wheel` holds as they are.
+pub const KEPT: usize = ROW - 4;
+
+pub const CONTACT_NORMAL: usize = 0;
+pub const CONTACT_POINT: usize = 3;
+pub const SUSPENSION_LENGTH: usize = 6;
+pub const HARD_POINT: usize = 7;
+pub const CENTER: usize = 10;
+pub const WORLD_DIRECTION: usize = 13;
+pub const WORLD_AXLE: usize = 16;
+pub const CONNECTION_POINT: usize = 19;
+pub const DIRECTION: usize = 22;
+pub const AXLE: usize = 25;
+pub const REST_LENGTH: usize = 28;
+pub const TRAVEL: usize = 29;
+pub const RADIUS: usize = 30;
+pub const STIFFNESS: usize = 31;
+pub const COMPRESSION: usize = 32;
+pub const RELAXATION: usize = 33;
+pub const SLIP: usize = 34;
+pub const SIDE_STIFFNESS: usize = 35;
+pub const ROTATION: usize = 36;
+pub const DELTA_ROTATION: usize = 37;
+pub const MAX_FORCE: usize = 38;
+pub const FORWARD_IMPULSE: usize = 39;
+pub const SIDE_IMPULSE: usize = 40;
+pub const STEERING: usize = 41;
+pub const ENGINE: usize = 45;
+pub const BRAKE: usize = 46;
+pub const CLIPPED_INVERSE: usize = 47;
+pub const RELATIVE_VELOCITY: usize = 48;
+pub const SUSPENSION_FORCE: usize = 49;
+pub const SKID: usize = 50;
+
+/// What an aim works out in a row: hard point, centre, world direction and world axle.
+pub const TRANSFORMS: Range<usize> = HARD_POINT..CONNECTION_POINT;
+
+/// One wheel's row.
+#[derive(Copy, Clone, Debug, PartialEq)]
+pub struct Row(pub [Real; ROW]);
+
+impl Row {
+    pub const ZERO: Row = Row([0.0; ROW]);
+
+    pub fn vector(&self, place: usize) -> Vector {
+        Vector::new(self.0[place], self.0[place + 1], self.0[place + 2])
+    }
+
+    pub fn steering(&self) -> Rotation {
+        let [x, y, z, w] = [0, 1, 2, 3].map(|part| self.0[STEERING + part]);
+        Rotation::new(x, y, z, w)
+    }
+
+    pub fn set_steering(&mut self, steering: Rotation) {
+        self.0[STEERING..ENGINE].copy_from_slice(&steering.parts());
+    }
+
+    /// The row without its steering.
+    pub fn kept(&self) -> [Real; KEPT] {
+        let mut numbers = [0.0; KEPT];
+        numbers[..STEERING].copy_from_slice(&self.0[..STEERING]);
+        numbers[STEERING..].copy_from_slice(&self.0[ENGINE..]);
+        numbers
+    }
+
+    /// The row of these numbers and this steering.
+    pub fn from_kept(numbers: [Real; KEPT], steering: Rotation) -> Row {
+        let mut row = Row::ZERO;
+        row.0[..STEERING].copy_from_slice(&numbers[..STEERING]);
+        row.0[ENGINE..].copy_from_slice(&numbers[STEERING..]);
+        row.set_steering(steering);
+        row
+    }
+}

@@ -1,0 +1,130 @@
+//! The scenario program: number coding, malformed places, lines.
+
+mod bench;
+
+use vehicle::program::{run, run_on_state, text};
+use vehicle::stream::{bytes_of, groups, table_tokens, Code, Reader};
+use vehicle::table::Table;
+
+fn printed(stream: &[u8]) -> String {
+    text(&run(stream))
+}
+
+#[test]
+fn a_read_of_nothing() {
+    assert_eq!(printed(&[0x05, 0x00, 0x00]), "vehicle 1\n5 4\n0 0\n");
+}
+
+#[test]
+fn ends_before_code_0() {
+    assert_eq!(printed(&[]), "vehicle 1\n0 9\n");
+    assert_eq!(printed(&[0x05]), "vehicle 1\n5 9\n");
+    assert_eq!(printed(&[0x05, 0x00]), "vehicle 1\n5 4\n0 9\n");
+    assert_eq!(printed(&[0x80]), "vehicle 1\n0 9\n");
+}
+
+#[test]
+fn bytes_after_code_0_are_not_read() {
+    assert_eq!(printed(&[0x00, 0xFF, 0xFF]), "vehicle 1\n0 0\n");
+}
+
+#[test]
+fn unknown_codes_are_shown() {
+    assert_eq!(printed(&[0x06]), "vehicle 1\n6 9\n");
+    assert_eq!(printed(&[0xFF, 0xFF, 0xFF, 0xFF, 0x0F]), "vehicle 1\n4294967295 9\n");
+}
+
+#[test]
+fn numbers_too_long_or_not_shortest() {
+    for stream in [
+        &[0x80, 0x00][..],
+        &[0x85, 0x00],
+        &[0x80, 0x80, 0x80, 0x80, 0x00],
+        &[0xFF, 0xFF, 0xFF, 0xFF, 0x10],
+        &[0xFF, 0xFF, 0xFF, 0xFF, 0x8F],
+        &[0x80, 0x80, 0x80, 0x80, 0x80, 0x00],
+    ] {
+        assert_eq!(printed(stream), "vehicle 1\n0 9\n", "{stream:?}");
+        let in_a_read: Vec<u8> = [&[0x05], stream].concat();
+        assert_eq!(printed(&in_a_read), "vehicle 1\n5 9\n", "{stream:?}");
+    }
+}
+
+#[test]
+fn numbers_read_back() {
+    for value in [0, 1, 127, 128, 16_383, 16_384, 0x0FFF_FFFF, 0x1000_0000, u32::MAX] {
+        let mut stream = vec![0x05];
+        stream.extend(groups(value));
+        assert_eq!(Reader::new(&stream).code(), Ok(Code::Read(value)));
+    }
+}
+
+#[test]
+fn counts_over_their_limits() {
+    let dt = groups(0.5f32.to_bits());
+    let drive = |rest: &[u8]| [&[0x04][..], &dt, rest].concat();
+    assert_eq!(printed(&drive(&[65])), "vehicle 1\n4 9\n");
+    assert_eq!(printed(&drive(&[0, 17])), "vehicle 1\n4 9\n");
+    assert_eq!(printed(&drive(&[0, 1, 3])), "vehicle 1\n4 9\n");
+    // Well formed, but not aimed.
+    assert_eq!(printed(&drive(&[0, 1, 0, 0])), "vehicle 1\n4 5\n0 0\n");
+}
+
+#[test]
+fn codes_read_back() {
+    let upward_normal = Some(bench::UP);
+    let body = Some(0);
+    let mut drive = bench::drive(&[bench::hit(), bench::hit()]);
+    drive.bodies = vec![bench::body()];
+    drive.answers.push(Some(vehicle::handed::Hit { upward_normal, body, ..bench::hit() }));
+    drive.answers.push(None);
+    let codes = [
+        Code::Add(bench::wheel()),
+        Code::Controls(7, bench::controls()),
+        Code::Aim(bench::chassis()),
+        Code::Drive(drive),
+        Code::Read(300),
+        Code::End,
+    ];
+    for code in codes {
+        assert_eq!(Reader::new(&bytes_of(&code.tokens())).code(), Ok(code));
+    }
+}
+
+#[test]
+fn a_short_scenario() {
+    let drive = bench::drive(&[bench::hit()]);
+    let codes = [
+        Code::Add(bench::wheel()),
+        Code::Aim(bench::chassis()),
+        Code::Drive(drive),
+        Code::Read(0),
+        Code::End,
+    ];
+    let tokens: Vec<_> = codes.iter().flat_map(Code::tokens).collect();
+    let zero = " 00000000";
+    let one = " 3f800000";
+    // The ray is (0, −2, 0); the spring's impulse of 5 lifts the chassis.
+    let aimed = format!("3 0{}{zero} c0000000{zero}", zero.repeat(4));
+    let driven = format!("4 0{zero} 40a00000{}", zero.repeat(5));
+    // Centre, direction −y, axle z, length 0, force 5, no impulses, skid 1, rotation 0.
+    let mut read = format!("5 0{}{zero} bf800000{zero}{}{one}", zero.repeat(3), zero.repeat(2));
+    read += &format!("{zero} 40a00000{}{one}{zero}", zero.repeat(2));
+    let text = printed(&bytes_of(&tokens)).replace("80000000", "00000000");
+    assert_eq!(text, format!("vehicle 1\n1 0\n{aimed}\n{driven}\n{read}\n0 0\n"));
+}
+
+#[test]
+fn a_state_is_loaded_and_shown() {
+    let mut table = Table::new();
+    table.add_wheel(&bench::wheel());
+    table.mark = 2;
+    let mut stream = bytes_of(&table_tokens(&table));
+    stream.extend([0x05, 0x00, 0x00]);
+    let text = run_on_state(&stream);
+    let lines: Vec<&str> = text.lines().collect();
+    assert!(lines[1].starts_with("5 0 "));
+    assert_eq!(lines[2], "0 0");
+    assert!(lines[3].starts_with("table 00000001 00000002 00000001 00000000 "));
+    assert_eq!(lines[3].split(' ').count(), 1 + 4 + vehicle::row::TABLE);
+}

@@ -1,0 +1,361 @@
+//! Refusals: each number, their order, tables of rubbish, and that nothing changes.
+
+mod bench;
+
+use bench::{aimed, body, chassis, controls, drive, hit, wheel, UP};
+use vehicle::handed::{Chassis, Controls, Drive, GroundBody, Hit, NewWheel};
+use vehicle::math::{Pose, Rotation, Vector};
+use vehicle::row;
+use vehicle::stream::table_tokens;
+use vehicle::table::{Table, ACCEPTED, MARK_AIMED, MARK_DRIVEN, MARK_NEW};
+
+const NAN: f32 = f32::NAN;
+const MOST: f32 = 1_048_576.0;
+const MOST_STORED: f32 = 1_099_511_627_776.0;
+
+fn above(number: f32) -> f32 {
+    f32::from_bits(number.to_bits() + 1)
+}
+
+/// The bits of a table, so that NaN equals itself and the zeros differ.
+fn bits(table: &Table) -> Vec<u32> {
+    table_tokens(table).into_iter().map(|token| token.value()).collect()
+}
+
+/// The answer of a call that must leave the table alone.
+fn unchanged(table: &mut Table, call: impl FnOnce(&mut Table) -> u32) -> u32 {
+    let before = bits(table);
+    let answer = call(table);
+    assert_eq!(bits(table), before);
+    answer
+}
+
+fn driven() -> Table {
+    let mut table = aimed();
+    assert_eq!(table.drive(&drive(&[hit()])).answer, ACCEPTED);
+    table
+}
+
+/// Every call but set-up, each with what it would accept.
+fn all_calls(table: &mut Table) -> [u32; 5] {
+    [
+        table.clone().add_wheel(&wheel()),
+        table.clone().set_controls(0, &controls()),
+        table.clone().aim(&chassis()).answer,
+        table.clone().drive(&drive(&[hit()])).answer,
+        table.read_wheel(0).answer,
+    ]
+}
+
+#[test]
+fn misshapen_tables() {
+    let spoilt: [fn(&mut Table); 6] = [
+        |table| table.count = 17,
+        |table| table.mark = 3,
+        |table| table.up = 3,
+        |table| table.forward = u32::MAX,
+        |table| table.numbers.truncate(row::TABLE - 1),
+        |table| table.numbers.push(0.0),
+    ];
+    for spoil in spoilt {
+        let mut table = aimed();
+        spoil(&mut table);
+        assert_eq!(all_calls(&mut table), [1; 5]);
+    }
+}
+
+#[test]
+fn set_up_writes_over_any_contents() {
+    let mut table = driven();
+    table.count = 99;
+    table.mark = 99;
+    table.up = 99;
+    table.numbers.fill(NAN);
+    assert_eq!(unchanged(&mut table, |table| table.set_up(3, 0)), 1);
+    assert_eq!(unchanged(&mut table, |table| table.set_up(0, 3)), 1);
+    assert_eq!(table.set_up(2, 1), ACCEPTED);
+    assert_eq!(table, Table { up: 2, forward: 1, ..Table::new() });
+    table.numbers.pop();
+    assert_eq!(unchanged(&mut table, |table| table.set_up(1, 0)), 1);
+}
+
+#[test]
+fn stored_numbers() {
+    for bad in [NAN, f32::INFINITY, -f32::INFINITY, above(MOST_STORED), -above(MOST_STORED)] {
+        for place in 0..row::CHASSIS + row::ROW {
+            let mut table = aimed();
+            table.numbers[place] = bad;
+            assert_eq!(all_calls(&mut table)[..4], [2; 4], "place {place}");
+            table.mark = MARK_DRIVEN;
+            assert_eq!(table.read_wheel(0).answer, 2, "place {place}");
+        }
+        // A row that is not used may hold anything.
+        let mut table = aimed();
+        table.numbers[row::CHASSIS + row::ROW] = bad;
+        assert_eq!(all_calls(&mut table)[..4], [ACCEPTED; 4]);
+    }
+}
+
+#[test]
+fn the_bound_itself_is_stored() {
+    let mut table = driven();
+    table.numbers[row::CHASSIS + row::CENTER] = -MOST_STORED;
+    assert_eq!(table.read_wheel(0).center.x, -MOST_STORED);
+}
+
+#[test]
+fn stored_settings() {
+    let settings = [
+        (row::RADIUS, 0.0),
+        (row::REST_LENGTH, -1.0),
+        (row::TRAVEL, -f32::from_bits(1)),
+        (row::STIFFNESS, -1.0),
+        (row::COMPRESSION, -1.0),
+        (row::RELAXATION, -1.0),
+        (row::SLIP, -1.0),
+        (row::SIDE_STIFFNESS, -1.0),
+        (row::MAX_FORCE, -1.0),
+        (row::BRAKE, -1.0),
+        (row::STEERING + 3, 0.5),
+    ];
+    for (place, value) in settings {
+        let mut table = aimed();
+        table.numbers[row::CHASSIS + place] = value;
+        // Add and controls test what is handed in; reading tests no setting.
+        assert_eq!(all_calls(&mut table), [0, 0, 10, 10, 5], "place {place}");
+    }
+}
+
+#[test]
+fn the_kept_chassis() {
+    for (place, value) in [(3, 0.5), (16, 0.0), (16, 2.0 * MOST)] {
+        let mut table = aimed();
+        table.numbers[place] = value;
+        // An aim replaces it, a drive works on it.
+        assert_eq!(all_calls(&mut table), [0, 0, 0, 10, 5], "place {place}");
+    }
+}
+
+#[test]
+fn wheels_and_moments() {
+    let mut table = Table::new();
+    assert_eq!(table.read_wheel(0).answer, 4);
+    assert_eq!(table.set_controls(0, &controls()), 4);
+    for _ in 0..16 {
+        assert_eq!(table.add_wheel(&wheel()), ACCEPTED);
+    }
+    assert_eq!(unchanged(&mut table, |table| table.add_wheel(&wheel())), 3);
+    assert_eq!(table.read_wheel(15).answer, 5);
+    assert_eq!(table.read_wheel(16).answer, 4);
+    assert_eq!(table.drive(&drive(&[hit(); 16])).answer, 5);
+}
+
+#[test]
+fn marks() {
+    let mut table = aimed();
+    assert_eq!(table.mark, MARK_AIMED);
+    table.set_controls(0, &controls());
+    assert_eq!(table.mark, MARK_NEW);
+    table.aim(&chassis());
+    table.drive(&drive(&[hit()]));
+    assert_eq!(table.mark, MARK_DRIVEN);
+    table.set_controls(0, &controls());
+    assert_eq!(table.mark, MARK_DRIVEN);
+    assert_eq!(unchanged(&mut table, |table| table.drive(&drive(&[hit()])).answer), 5);
+    table.add_wheel(&wheel());
+    assert_eq!(table.mark, MARK_NEW);
+}
+
+fn refuse_drive(drive: &Drive) -> u32 {
+    unchanged(&mut aimed(), |table| table.drive(drive).answer)
+}
+
+#[test]
+fn answers_of_a_drive() {
+    assert_eq!(refuse_drive(&drive(&[])), 6);
+    assert_eq!(refuse_drive(&drive(&[hit(), hit()])), 6);
+    for time in [NAN, f32::INFINITY, -f32::from_bits(1), above(1.0)] {
+        assert_eq!(refuse_drive(&drive(&[Hit { time, ..hit() }])), 6);
+    }
+    assert_eq!(refuse_drive(&drive(&[Hit { body: Some(0), ..hit() }])), 6);
+    assert_eq!(refuse_drive(&Drive { bodies: vec![body(); 65], ..drive(&[hit()]) }), 6);
+    let full = Drive { bodies: vec![body(); 64], ..drive(&[Hit { body: Some(63), ..hit() }]) };
+    assert_eq!(aimed().drive(&full).answer, ACCEPTED);
+}
+
+#[test]
+fn numbers_of_a_drive() {
+    for bad in [NAN, f32::INFINITY, above(MOST), -above(MOST)] {
+        assert_eq!(refuse_drive(&Drive { dt: bad, ..drive(&[hit()]) }), 2);
+        let normal = Vector::new(0.0, bad, 0.0);
+        assert_eq!(refuse_drive(&drive(&[Hit { normal, ..hit() }])), 2);
+        // The upward normal is tested at every time.
+        let upward_normal = Some(normal);
+        assert_eq!(refuse_drive(&drive(&[Hit { upward_normal, ..hit() }])), 2);
+        // A body is tested whether a hit names it or not.
+        let bodies = vec![GroundBody { inverse_mass: bad, ..body() }];
+        assert_eq!(refuse_drive(&Drive { bodies, ..drive(&[hit()]) }), 2);
+    }
+}
+
+#[test]
+fn ranges_of_a_drive() {
+    for dt in [-f32::from_bits(1), above(1.0), MOST] {
+        assert_eq!(refuse_drive(&Drive { dt, ..drive(&[hit()]) }), 10);
+    }
+    for dt in [0.0, -0.0, 1.0] {
+        assert_eq!(aimed().drive(&Drive { dt, ..drive(&[hit()]) }).answer, ACCEPTED);
+    }
+    let bodies = vec![GroundBody { inverse_mass: -1.0, ..body() }];
+    assert_eq!(refuse_drive(&Drive { bodies, ..drive(&[hit()]) }), 10);
+}
+
+#[test]
+fn ranges_of_an_aim() {
+    let answer = |chassis: Chassis| Table::new().aim(&chassis).answer;
+    let least = 1.0 / MOST;
+    assert_eq!(answer(Chassis { inverse_mass: least, ..chassis() }), ACCEPTED);
+    assert_eq!(answer(Chassis { inverse_mass: MOST, ..chassis() }), ACCEPTED);
+    assert_eq!(answer(Chassis { inverse_mass: above(MOST), ..chassis() }), 2);
+    assert_eq!(answer(Chassis { inverse_mass: least * 0.999, ..chassis() }), 10);
+    let turned = |w: f32| Chassis {
+        pose: Pose { rotation: Rotation::new(0.0, 0.0, 0.0, w), ..Pose::IDENTITY },
+        ..chassis()
+    };
+    // 1.0004882 squared is just below 1 + 2^-10, its neighbour's square just above.
+    let inside = (1.0f32 + 1.0 / 1024.0).sqrt();
+    assert!(inside * inside <= 1.0 + 1.0 / 1024.0);
+    assert_eq!(answer(turned(inside)), ACCEPTED);
+    assert_eq!(answer(turned(1.0006)), 10);
+    assert_eq!(answer(turned(0.9994)), 10);
+}
+
+#[test]
+fn ranges_of_an_add() {
+    let answer = |wheel: NewWheel| Table::new().add_wheel(&wheel);
+    assert_eq!(answer(NewWheel { radius: f32::from_bits(1), ..wheel() }), ACCEPTED);
+    assert_eq!(answer(NewWheel { radius: 0.0, ..wheel() }), 10);
+    assert_eq!(answer(NewWheel { radius: -0.0, ..wheel() }), 10);
+    assert_eq!(answer(NewWheel { slip: -0.0, ..wheel() }), ACCEPTED);
+    assert_eq!(answer(NewWheel { slip: -f32::from_bits(1), ..wheel() }), 10);
+    assert_eq!(answer(NewWheel { slip: MOST, ..wheel() }), ACCEPTED);
+    assert_eq!(answer(NewWheel { slip: above(MOST), ..wheel() }), 2);
+}
+
+#[test]
+fn a_demand_or_limit_too_large() {
+    let after = |wheel: NewWheel, chassis: Chassis| {
+        let mut table = Table::new();
+        table.add_wheel(&wheel);
+        table.aim(&chassis);
+        unchanged(&mut table, |table| table.drive(&drive(&[hit()])).answer)
+    };
+    // A limit of 5 · 2^20 · 2^20.
+    let heavy = Chassis { inverse_mass: 1.0 / MOST, ..chassis() };
+    assert_eq!(after(NewWheel { slip: MOST, ..wheel() }, heavy), 7);
+    // A side demand of 0.2 · 20 · 2^20 · 2^20.
+    let sideways = Chassis { linear: Vector::new(0.0, 0.0, 20.0), ..heavy };
+    assert_eq!(after(NewWheel { side_stiffness: MOST, stiffness: 0.0, ..wheel() }, sideways), 7);
+}
+
+#[test]
+fn a_demand_that_is_not_a_number() {
+    // The contact point is (0, −1, 0): the denominator is 1 − 1, and 0 times infinity is NaN.
+    let inverse_inertia = [0.0, 0.0, 0.0, 0.0, 0.0, -1.0];
+    let after = |velocity: f32| {
+        let mut table = Table::new();
+        table.add_wheel(&NewWheel { stiffness: 1000.0, ..wheel() });
+        table.set_controls(0, &Controls { brake: 2.0, ..controls() });
+        let linear = Vector::new(velocity, 0.0, 0.0);
+        table.aim(&Chassis { inverse_inertia, linear, ..chassis() });
+        let answer = table.drive(&drive(&[hit()])).answer;
+        (answer, table.row(0).0[row::FORWARD_IMPULSE])
+    };
+    assert_eq!(after(0.0).0, 7);
+    // An infinite demand is cut to the brake.
+    assert_eq!(after(1.0), (ACCEPTED, -2.0));
+}
+
+#[test]
+fn a_limit_that_is_not_a_number_is_refused_without_a_panic() {
+    // Only a table of rubbish gets so far: the centre of mass is 2^40 away and the chassis turns
+    // at 2^40, so that the relative velocity is −2^80; times a compression of 2^40 and a mass of
+    // 2^20 the force is infinite, and infinity times a dt of 0 is NaN. The velocity alone would
+    // be refused with 8.
+    let mut table = aimed();
+    table.numbers[row::CHASSIS + row::COMPRESSION] = MOST_STORED;
+    table.numbers[7] = MOST_STORED;
+    table.numbers[15] = MOST_STORED;
+    table.numbers[16] = 1.0 / MOST;
+    let drive = Drive { dt: 0.0, ..drive(&[hit()]) };
+    assert_eq!(unchanged(&mut table, |table| table.drive(&drive).answer), 7);
+    table.numbers[row::CHASSIS + row::COMPRESSION] = 0.0;
+    assert_eq!(unchanged(&mut table, |table| table.drive(&drive).answer), 8);
+}
+
+#[test]
+fn results_too_large() {
+    // A centre of 2^20 · √3 · 2^20 along y, once the chassis has turned.
+    let mut table = Table::new();
+    let direction = Vector::new(0.0, -MOST, MOST);
+    let wheel = NewWheel { direction, rest_length: 0.0, radius: MOST, travel: MOST, ..wheel() };
+    table.add_wheel(&NewWheel { stiffness: 0.0, ..wheel });
+    table.aim(&chassis());
+    assert_eq!(table.drive(&drive(&[Hit { time: 0.0, ..hit() }])).answer, ACCEPTED);
+    assert_eq!(table.row(0).0[row::SUSPENSION_LENGTH], -MOST);
+    assert_eq!(table.aim(&chassis()).answer, ACCEPTED);
+    assert_eq!(table.row(0).vector(row::CENTER).y, MOST_STORED);
+    // An eighth of a turn about x.
+    let rotation = Rotation::new(0.382_683_43, 0.0, 0.0, 0.923_879_5);
+    let turned = Chassis { pose: Pose { rotation, ..Pose::IDENTITY }, ..chassis() };
+    assert_eq!(unchanged(&mut table, |table| table.aim(&turned).answer), 8);
+    // A contact point of 2^20 · 2^21.
+    let mut table = Table::new();
+    table.add_wheel(&NewWheel { rest_length: MOST, ..wheel });
+    table.aim(&chassis());
+    let nothing = Drive { dt: 0.0, bodies: vec![], answers: vec![None] };
+    assert_eq!(unchanged(&mut table, |table| table.drive(&nothing).answer), 8);
+}
+
+#[test]
+fn the_order() {
+    // 1 before all, then 3 before 2 and 10.
+    let mut table = Table::new();
+    let worst = NewWheel { slip: NAN, radius: -1.0, ..wheel() };
+    table.mark = 9;
+    assert_eq!(table.add_wheel(&worst), 1);
+    table.mark = 0;
+    table.count = 16;
+    assert_eq!(table.add_wheel(&worst), 3);
+    table.count = 0;
+    assert_eq!(table.add_wheel(&worst), 2);
+    assert_eq!(table.add_wheel(&NewWheel { slip: 1.0, ..worst }), 10);
+    // 4 before 2 and 10; 4 before 5.
+    let worst = Controls { engine: NAN, brake: -1.0, ..controls() };
+    assert_eq!(table.set_controls(0, &worst), 4);
+    table.add_wheel(&wheel());
+    assert_eq!(table.set_controls(0, &worst), 2);
+    assert_eq!(table.set_controls(0, &Controls { engine: 0.0, ..worst }), 10);
+    assert_eq!(table.read_wheel(1).answer, 4);
+    // 5 before 6, 6 before 2, 2 before 10.
+    let normal = Vector::new(NAN, 0.0, 0.0);
+    let mut worst = Drive { dt: 2.0, ..drive(&[Hit { time: 2.0, normal, ..hit() }]) };
+    assert_eq!(table.drive(&worst).answer, 5);
+    table.aim(&chassis());
+    assert_eq!(table.drive(&worst).answer, 6);
+    worst.answers[0] = Some(Hit { normal, ..hit() });
+    assert_eq!(table.drive(&worst).answer, 2);
+    worst.answers[0] = Some(hit());
+    assert_eq!(table.drive(&worst).answer, 10);
+}
+
+#[test]
+fn refused_replies_are_zeros() {
+    let mut table = Table::new();
+    let fast = Chassis { linear: UP, inverse_mass: 0.0, ..chassis() };
+    let aimed = table.aim(&fast);
+    assert_eq!((aimed.answer, aimed.speed, aimed.rays), (10, 0.0, vec![]));
+    let driven = table.drive(&drive(&[]));
+    let zeros = (Vector::ZERO, Vector::ZERO, false);
+    assert_eq!((driven.linear, driven.angular, driven.wake), zeros);
+}

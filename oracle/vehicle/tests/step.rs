@@ -1,0 +1,220 @@
+//! Parts of a step that the marked cases leave out, worked out by hand.
+
+mod bench;
+
+use bench::{body, chassis, controls, drive, hit, row_after, wheel, UP};
+use vehicle::handed::{Chassis, Controls, Drive, GroundBody, Hit, NewWheel};
+use vehicle::math::{Pose, Rotation, Vector};
+use vehicle::row::{self, Row};
+use vehicle::table::{Table, ACCEPTED, MARK_AIMED};
+
+#[test]
+fn an_aim_works_out_the_transforms() {
+    let mut table = Table::new();
+    let connection_point = Vector::new(1.0, 0.0, 0.0);
+    table.add_wheel(&NewWheel { connection_point, ..wheel() });
+    // A quarter turn about y takes x to −z and z to x; half its square root is not exact, so the
+    // half turn (0, 1, 0, 0) is taken: x to −x, z to −z.
+    let rotation = Rotation::new(0.0, 1.0, 0.0, 0.0);
+    let translation = Vector::new(10.0, 20.0, 30.0);
+    let linear = Vector::new(3.0, 0.0, 4.0);
+    let aimed = table.aim(&Chassis { pose: Pose { rotation, translation }, linear, ..chassis() });
+    // The forward axis is −x now, so that the speed is −5.
+    assert_eq!(aimed.speed, -5.0);
+    let hard_point = Vector::new(9.0, 20.0, 30.0);
+    assert_eq!(aimed.rays, [(hard_point, Vector::new(0.0, -2.0, 0.0))]);
+    let row = table.row(0);
+    assert_eq!(row.vector(row::HARD_POINT), hard_point);
+    assert_eq!(row.vector(row::WORLD_AXLE), Vector::new(0.0, 0.0, -1.0));
+    // The length stored so far is 0.
+    assert_eq!(row.vector(row::CENTER), hard_point);
+}
+
+#[test]
+fn the_centre_uses_the_length_of_the_drive_before() {
+    let mut table = Table::new();
+    table.add_wheel(&wheel());
+    table.aim(&chassis());
+    table.drive(&drive(&[Hit { time: 0.75, ..hit() }]));
+    assert_eq!(table.read_wheel(0).center, Vector::ZERO);
+    assert_eq!(table.read_wheel(0).suspension_length, 0.5);
+    table.aim(&chassis());
+    assert_eq!(table.row(0).vector(row::CENTER), Vector::new(0.0, -0.5, 0.0));
+}
+
+#[test]
+fn steering_turns_the_axle_after_the_chassis() {
+    let mut table = Table::new();
+    table.add_wheel(&wheel());
+    let steering = Rotation::new(0.0, 1.0, 0.0, 0.0);
+    table.set_controls(0, &Controls { steering, ..controls() });
+    table.aim(&chassis());
+    assert_eq!(table.row(0).vector(row::WORLD_AXLE), Vector::new(0.0, 0.0, -1.0));
+    assert_eq!(table.row(0).steering(), steering);
+}
+
+#[test]
+fn nothing_hit() {
+    let mut table = Table::new();
+    table.add_wheel(&wheel());
+    table.aim(&Chassis { linear: Vector::new(1.0, 2.0, 3.0), ..chassis() });
+    let driven = table.drive(&Drive { dt: 0.5, bodies: vec![], answers: vec![None] });
+    assert_eq!(driven.linear, Vector::new(1.0, 2.0, 3.0));
+    let row = table.row(0);
+    assert_eq!(row.vector(row::CONTACT_POINT), Vector::new(0.0, -2.0, 0.0));
+    assert_eq!(row.vector(row::CONTACT_NORMAL), UP);
+    assert_eq!(row.0[row::SUSPENSION_LENGTH], 1.0);
+    assert_eq!(row.0[row::CLIPPED_INVERSE], 1.0);
+    assert_eq!(row.0[row::SKID], 1.0);
+    assert_eq!(row.0[row::SUSPENSION_FORCE], 0.0);
+}
+
+fn normal_at(time: f32, normal: Vector, upward_normal: Option<Vector>) -> Vector {
+    let hit = Hit { time, normal, upward_normal, body: None };
+    row_after(wheel(), controls(), chassis(), hit).vector(row::CONTACT_NORMAL)
+}
+
+#[test]
+fn a_hit_at_time_0_takes_minus_the_upward_normal() {
+    let side = Vector::new(1.0, 0.0, 0.0);
+    assert_eq!(normal_at(0.0, side, Some(Vector::new(0.0, -0.5, 0.0))), UP * 0.5);
+    assert_eq!(normal_at(-0.0, side, Some(Vector::new(0.0, -0.5, 0.0))), UP * 0.5);
+    assert_eq!(normal_at(0.0, side, None), side);
+    // Zero, then minus the direction.
+    assert_eq!(normal_at(0.0, side, Some(Vector::ZERO)), UP);
+    assert_eq!(normal_at(0.0, Vector::ZERO, None), UP);
+}
+
+#[test]
+fn at_another_time_the_normal_stays() {
+    assert_eq!(normal_at(0.5, UP, Some(Vector::new(1.0, 0.0, 0.0))), UP);
+    assert_eq!(normal_at(0.5, Vector::ZERO, Some(UP)), Vector::ZERO);
+}
+
+#[test]
+fn the_impulse_uses_the_cut_force_and_the_limit_the_whole() {
+    // Force 5, cut to 2: the chassis gains 2 · dt upward; the limit stays 5, so that 10 grips.
+    let wheel = NewWheel { max_force: 2.0, ..wheel() };
+    let mut table = Table::new();
+    table.add_wheel(&wheel);
+    table.set_controls(0, &Controls { engine: 10.0, ..controls() });
+    table.aim(&chassis());
+    let driven = table.drive(&drive(&[hit()]));
+    assert_eq!(driven.linear, Vector::new(10.0, 2.0, 0.0));
+    assert!(driven.wake);
+    let read = table.read_wheel(0);
+    assert_eq!([read.suspension_force, read.forward_impulse, read.skid], [5.0, 10.0, 1.0]);
+}
+
+/// The side demand with a ground body, whose side velocity is 20 and whose inverse mass is 1.
+fn side_over(body: Option<GroundBody>) -> f32 {
+    let mut table = Table::new();
+    table.add_wheel(&NewWheel { stiffness: 100.0, ..wheel() });
+    table.aim(&chassis());
+    let named = body.map(|_| 0);
+    let answers = vec![Some(Hit { body: named, ..hit() })];
+    let driven = table.drive(&Drive { dt: 1.0, bodies: body.into_iter().collect(), answers });
+    assert_eq!(driven.answer, ACCEPTED);
+    table.row(0).0[row::SIDE_IMPULSE]
+}
+
+#[test]
+fn only_a_dynamic_body_counts_for_the_side_demand() {
+    let moving = GroundBody { linear: Vector::new(0.0, 0.0, 20.0), ..body() };
+    assert_eq!(side_over(None), 0.0);
+    assert_eq!(side_over(Some(GroundBody { dynamic: false, ..moving })), 0.0);
+    // −0.2 · (0 − 20) · inv(1 + 1).
+    assert_eq!(side_over(Some(moving)), 2.0);
+}
+
+#[test]
+fn any_named_body_counts_for_the_rolling_demand() {
+    let moving = GroundBody { linear: Vector::new(6.0, 0.0, 0.0), dynamic: false, ..body() };
+    let mut table = Table::new();
+    table.add_wheel(&NewWheel { stiffness: 100.0, ..wheel() });
+    table.set_controls(0, &Controls { brake: 50.0, ..controls() });
+    table.aim(&chassis());
+    let answers = vec![Some(Hit { body: Some(0), ..hit() })];
+    table.drive(&Drive { dt: 1.0, bodies: vec![moving], answers });
+    // −(0 − 6) · (1 / (1 + 1)) / 1.
+    assert_eq!(table.row(0).0[row::FORWARD_IMPULSE], 3.0);
+}
+
+#[test]
+fn spin_in_contact_and_in_the_air() {
+    let mut table = Table::new();
+    table.add_wheel(&wheel());
+    let linear = Vector::new(8.0, 0.0, 0.0);
+    table.aim(&Chassis { linear, ..chassis() });
+    table.drive(&Drive { dt: 0.5, ..drive(&[hit()]) });
+    // 8 · 0.5 / 1, then the spin times 0.99 is stored, in contact too.
+    assert_eq!(table.read_wheel(0).rotation, 4.0);
+    assert_eq!(table.row(0).0[row::DELTA_ROTATION], 4.0 * 0.99);
+    table.aim(&Chassis { linear, ..chassis() });
+    table.drive(&Drive { dt: 0.5, bodies: vec![], answers: vec![None] });
+    assert_eq!(table.read_wheel(0).rotation, 4.0 + 4.0 * 0.99);
+}
+
+#[test]
+fn other_axes_are_used() {
+    let mut table = Table::new();
+    assert_eq!(table.set_up(1, 2), ACCEPTED);
+    table.add_wheel(&wheel());
+    let linear = Vector::new(3.0, 0.0, -4.0);
+    assert_eq!(table.aim(&Chassis { linear, ..chassis() }).speed, -5.0);
+}
+
+#[test]
+fn the_side_impulse_is_lifted_along_the_up_axis() {
+    // The contact point is (0, −1, 0); with up y it is lifted to y = −1 + 0.9, with up z it stays.
+    let turned_about_x_with = |up| {
+        let mut table = Table::new();
+        table.set_up(up, 0);
+        table.add_wheel(&NewWheel { stiffness: 1000.0, ..wheel() });
+        let linear = Vector::new(0.0, 0.0, -20.0);
+        let inverse_inertia = [1.0, 0.0, 0.0, 0.0, 0.0, 0.0];
+        table.aim(&Chassis { linear, inverse_inertia, ..chassis() });
+        table.drive(&drive(&[hit()])).angular.x
+    };
+    // d × axis = (−1, 0, 0) turns about x: the demand is 4 / (1 + 1) = 2.
+    assert_eq!(turned_about_x_with(2), -2.0);
+    // The lift is 1 − 0.1 in single precision, and −1 + 0.9 too.
+    let lift: f32 = 1.0 - 0.1;
+    assert_eq!(turned_about_x_with(1), (-1.0 + lift) * 2.0);
+}
+
+/// A drive works on the stored transforms, also where no aim could have written them.
+#[test]
+fn a_drive_uses_the_stored_transforms() {
+    let mut table = Table::new();
+    table.add_wheel(&wheel());
+    table.aim(&chassis());
+    let mut row: Row = table.row(0);
+    row.0[row::HARD_POINT] = 5.0;
+    table.set_row(0, &row);
+    assert_eq!(table.mark, MARK_AIMED);
+    assert_eq!(table.drive(&drive(&[hit()])).answer, ACCEPTED);
+    assert_eq!(table.row(0).vector(row::HARD_POINT), Vector::new(5.0, 0.0, 0.0));
+    assert_eq!(table.row(0).vector(row::CONTACT_POINT), Vector::new(5.0, -1.0, 0.0));
+}
+
+#[test]
+fn a_drive_without_wheels() {
+    let mut table = Table::new();
+    let linear = Vector::new(1.0, 2.0, 3.0);
+    table.aim(&Chassis { linear, ..chassis() });
+    let driven = table.drive(&drive(&[]));
+    assert_eq!((driven.answer, driven.linear, driven.wake), (ACCEPTED, linear, false));
+}
+
+/// The stock `inv` answers 0 up to 1e-20 and would stop this wheel; document 01's does so for 0
+/// only. The root of the left side is 6 · 2^-70, about 5.1e-21; the limit is 5 · 2^-70.
+#[test]
+fn a_root_below_the_stock_threshold() {
+    let tiny = f32::from_bits((127 - 70) << 23);
+    let wheel = NewWheel { slip: tiny, ..wheel() };
+    let controls = Controls { engine: 12.0 * tiny, ..controls() };
+    let row = row_after(wheel, controls, chassis(), hit());
+    assert_eq!(row.0[row::SKID], 5.0 * (1.0 / 6.0));
+    assert_eq!(row.0[row::FORWARD_IMPULSE], 12.0 * tiny * (5.0 * (1.0 / 6.0)));
+}
