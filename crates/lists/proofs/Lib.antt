@@ -3,3 +3,4 @@ pub mod Picks
 pub mod Parts
 pub mod Turns
 pub mod Every
+pub mod Refusals

@@ -1,0 +1,134 @@
+// A small car through set-up, aim, drive and read, and each refusal that a call can give. Its expected output, `stdout`, is worked out by
+// hand from document 01: the numbers are chosen so that every step of the car is exact.
+use body::Body;
+use body::Chassis;
+use drive::Driven;
+use table::layout::BODY;
+use table::layout::SIZE;
+use vector::Inertia;
+use vector::Pose;
+use vector::Rotation;
+use vector::Vector;
+use vehicle::WheelTuning;
+use wheel::RayAnswer;
+
+mod show; // printing
+mod refusals_met; // each refusal number by a call
+
+fn v(x: f32, y: f32, z: f32) -> Vector {
+    Vector { x, y, z }
+}
+
+fn identity() -> Rotation {
+    Rotation {
+        b: v(0.0, 0.0, 0.0),
+        w: 1.0,
+    }
+}
+
+// Mass 4 and no inverse inertia, so that impulses only push.
+fn chassis(linvel: Vector) -> Chassis {
+    Chassis {
+        pose: Pose {
+            translation: v(0.0, 0.0, 0.0),
+            rotation: identity(),
+        },
+        body: Body {
+            centre: v(0.0, 0.0, 0.0),
+            linvel,
+            angvel: v(0.0, 0.0, 0.0),
+            invmass: 0.25,
+            inertia: Inertia {
+                xx: 0.0,
+                xy: 0.0,
+                xz: 0.0,
+                yy: 0.0,
+                yz: 0.0,
+                zz: 0.0,
+            },
+        },
+        effective: v(0.25, 0.25, 0.25),
+    }
+}
+
+// With a force of 16 over a step of 0.5, the grip limit is 8 times the slip.
+fn tuning(slip: f32) -> WheelTuning {
+    WheelTuning {
+        stiffness: 8.0,
+        compression: 2.0,
+        damping: 2.0,
+        travel: 0.5,
+        side: 1.0,
+        slip,
+        most: 1024.0,
+    }
+}
+
+fn add(table: &mut [f32], whole: &mut [u32], x: f32, z: f32, slip: f32) {
+    let number = vehicle::add::add_wheel(
+        table,
+        whole,
+        v(x, 0.0, z),
+        v(0.0, -1.0, 0.0),
+        v(0.0, 0.0, 1.0),
+        1.0,
+        1.0,
+        tuning(slip),
+    );
+    show::line(b"add", number);
+}
+
+fn control(table: &mut [f32], whole: &mut [u32], wheel: u32, engine: f32, brake: f32) {
+    let number = vehicle::controls::set_controls(table, whole, wheel, engine, brake, identity());
+    show::line(b"controls", number);
+}
+
+fn read(table: &[f32], whole: &[u32], wheel: u32) {
+    show::reading(vehicle::read::read_wheel(table, whole, wheel));
+}
+
+// Flat ground under every wheel, at three quarters of its ray.
+fn on_the_ground() -> [RayAnswer; 16] {
+    [RayAnswer::Hit(0.75, v(0.0, 1.0, 0.0), 0); 16]
+}
+
+fn go(table: &mut [f32], whole: &mut [u32], answers: [RayAnswer; 16]) -> Driven {
+    let bodies = [0.0; 0];
+    let dynamic = [false; 0];
+    drive::drive::drive(table, whole, 0.5, &bodies, &dynamic, answers, 4)
+}
+
+// Two wheels that slide, one with its engine and one on its brake, one that slides sideways, and one that grips.
+fn first_frame(table: &mut [f32], whole: &mut [u32]) {
+    control(table, whole, 0, 12.0, 0.0);
+    control(table, whole, 1, 0.0, 6.0);
+    show::aimed(drive::aim::aim(table, whole, chassis(v(12.0, 0.0, 5.0))));
+    show::driven(go(table, whole, on_the_ground()));
+    read(&table[..], &whole[..], 0);
+    read(&table[..], &whole[..], 1);
+    read(&table[..], &whole[..], 2);
+    read(&table[..], &whole[..], 3);
+}
+
+// A jump: no ray meets anything. The centre has the length of the drive before, and the wheel spins on.
+fn second_frame(table: &mut [f32], whole: &mut [u32]) {
+    show::aimed(drive::aim::aim(table, whole, chassis(v(-12.0, 0.0, 5.0))));
+    show::driven(go(table, whole, [RayAnswer::Nothing; 16]));
+    read(&table[..], &whole[..], 0);
+}
+
+fn main() {
+    let mut table = [0.0; SIZE];
+    let mut whole = [0u32; 4];
+    show::line(
+        b"set up",
+        vehicle::set_up::set_up(&mut table, &mut whole, 1, 0),
+    );
+    add(&mut table, &mut whole, 1.0, 1.0, 0.3125);
+    add(&mut table, &mut whole, 1.0, -1.0, 0.3125);
+    add(&mut table, &mut whole, -1.0, 1.0, 0.3125);
+    add(&mut table, &mut whole, -1.0, -1.0, 8.0);
+    first_frame(&mut table, &mut whole);
+    second_frame(&mut table, &mut whole);
+    refusals_met::all(&mut table, &mut whole);
+}

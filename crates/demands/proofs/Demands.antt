@@ -1,0 +1,185 @@
+-- The three demands, as theorems over the definitions of the six calls: setUp, addWheel, setControls, readWheel (crate vehicle), aimOf and driveOf (crate drive). The demand's own words stand above each.
+-- That a function is its definition, and that it ends for all numbers and every lent table, is each function's contract, proved in its own crate: none has a `requires`. Assumes nothing.
+use Prim.Native.Nat.{ℕ, _≤_, _<_}
+use mathlib.Core.Bool.{true, false}
+use mathlib.Core.List.{List, _∷_}
+use mathlib.Core.Path.{_≡_, refl, sym, ap, subst, _∙_}
+use borrow.Author.Tests.{eqb-true, eq-eqb}
+use lib.Ieee.{Float, Format, le}
+use Rattle.body.specs.declared.Chassis.{Chassis}
+use Rattle.wheel.specs.declared.Settings.{Settings}
+use Rattle.wheel.specs.declared.Controls.{Controls}
+use Rattle.wheel.specs.declared.Friction.{Friction}
+use Rattle.wheel.specs.Grip.{skidOf, rescaledBy}
+use Rattle.wheel.specs.Demand3.{precision, Grips, WithinBrake}
+use Rattle.wheel.proofs.Demand3.{not-sliding, sliding}
+use Rattle.table.specs.Layout as at
+use Rattle.passes.specs.Frame.{Frame}
+use Rattle.refusals.specs.Shape.{countOf, upOf, forwardOf}
+use Rattle.refusals.specs.After.{After, after, settled, marked}
+use Rattle.vehicle.specs.declared.Reading.{Reading}
+use Rattle.vehicle.specs.SetUp.{setUp, refuseSetUp}
+use Rattle.vehicle.specs.Add.{addWheel, refuseAdd}
+use Rattle.vehicle.specs.Controls.{setControls, refuseControls}
+use Rattle.vehicle.specs.Read.{readWheel, refuseRead, notRead, readingOf}
+use Rattle.drive.specs.declared.Aimed.{Aimed}
+use Rattle.drive.specs.declared.Driven.{Driven}
+use Rattle.drive.specs.Aim.{aimOf, refuseAim, notAimed, aimedBy, aimedTable}
+use Rattle.drive.specs.Drive.{driveOf, refuseDrive, notDriven, drivenBy, wholeStep}
+use Rattle.demands.specs.History.{State, Call, SetUp, ReadWheel, answered, accepted, runAll, drivenSince, countAfter, readAfter}
+use Rattle.demands.specs.Same.{Same}
+use Rattle.demands.specs.Impulses.{Step, Accepted, Stepped, Grounded, forwardDemand, sideDemand, gripLimit, forwardImpulse, sideImpulse, brakeOf, leastLimit, slidesAt, poweredAt, Alike}
+use Rattle.demands.proofs.Settled.{settled-refused, settled-done, settled-number, same-of-after}
+use Rattle.demands.proofs.Accepted.{read-says}
+use Rattle.demands.proofs.Marks.{history-from-set-up}
+use Rattle.demands.proofs.Five.{five-of-not-driven, not-five-of-driven}
+use Rattle.demands.proofs.Numbers.{number-le-ten}
+use Rattle.demands.proofs.Impulses.{forward-rescaled, side-rescaled, forward-admitted, side-admitted, limit-admitted, within-brake, friction-alike}
+
+-- ---- Demand 1. "A bad call is answered by a number of document 01": the number that a call answers is that of its refusal list, 0 where no test of the list fails.
+module _ (f : Format) (t : List Float) (m : List ℕ) where
+  pub set-up-number : (up forward : ℕ) → setUp t m up forward .reply ≡ refuseSetUp t m up forward
+  unfolding setUp
+  set-up-number up forward = settled-number _ _ _ t m (λ n. n) refl refl
+
+  pub add-number : (s : Settings) → addWheel t m s .reply ≡ refuseAdd t m s
+  unfolding addWheel
+  add-number s = settled-number _ _ _ t m (λ n. n) refl refl
+
+  pub controls-number : (i : ℕ) (c : Controls) → setControls f t m i c .reply ≡ refuseControls f t m i c
+  unfolding setControls
+  controls-number i c = settled-number _ _ _ t m (λ n. n) refl refl
+
+  pub aim-number : (c : Chassis) → aimOf f t m c .reply .number ≡ refuseAim f t m c
+  unfolding aimOf notAimed aimedBy
+  aim-number c = settled-number _ notAimed _ t m (λ r. r .number) refl refl
+
+  pub drive-number : (r : Frame) (n : ℕ) → driveOf f t m r n .reply .number ≡ refuseDrive f t m r n
+  unfolding driveOf notDriven drivenBy
+  drive-number r n = settled-number _ notDriven _ t m (λ x. x .number) refl refl
+
+  pub read-number : (i : ℕ) → readWheel t m i .reply .number ≡ refuseRead t m i
+  unfolding readWheel notRead readingOf
+  read-number i = settled-number _ notRead _ t m (λ r. r .number) refl refl
+
+  -- ".. and changes no lent number": a refusal answers its number, zeros elsewhere, and leaves the table and the whole numbers as they were. Once for every call, and for each.
+  pub refusal-changes-nothing : {R : Type 0} (number : ℕ) (refused : ℕ → R) (done : After R) → (number ≡ 0 → ⊥) → settled number refused done t m ≡ after (refused number) t m
+  refusal-changes-nothing number refused done h = settled-refused number refused done t m h
+
+  pub set-up-refused : (up forward : ℕ) → (refuseSetUp t m up forward ≡ 0 → ⊥) → setUp t m up forward ≡ after (refuseSetUp t m up forward) t m
+  unfolding setUp
+  set-up-refused up forward h = refusal-changes-nothing _ _ _ h
+
+  pub add-refused : (s : Settings) → (refuseAdd t m s ≡ 0 → ⊥) → addWheel t m s ≡ after (refuseAdd t m s) t m
+  unfolding addWheel
+  add-refused s h = refusal-changes-nothing _ _ _ h
+
+  pub controls-refused : (i : ℕ) (c : Controls) → (refuseControls f t m i c ≡ 0 → ⊥) → setControls f t m i c ≡ after (refuseControls f t m i c) t m
+  unfolding setControls
+  controls-refused i c h = refusal-changes-nothing _ _ _ h
+
+  pub aim-refused : (c : Chassis) → (refuseAim f t m c ≡ 0 → ⊥) → aimOf f t m c ≡ after (notAimed (refuseAim f t m c)) t m
+  unfolding aimOf
+  aim-refused c h = refusal-changes-nothing _ notAimed _ h
+
+  pub drive-refused : (r : Frame) (n : ℕ) → (refuseDrive f t m r n ≡ 0 → ⊥) → driveOf f t m r n ≡ after (notDriven (refuseDrive f t m r n)) t m
+  unfolding driveOf
+  drive-refused r n h = refusal-changes-nothing _ notDriven _ h
+
+  pub read-refused : (i : ℕ) → (refuseRead t m i ≡ 0 → ⊥) → readWheel t m i ≡ after (notRead (refuseRead t m i)) t m
+  unfolding readWheel
+  read-refused i h = refusal-changes-nothing _ notRead _ h
+
+-- the numbers are those of document 01's table
+pub answer-in-table : (f : Format) (c : Call) (s : State) → answered f c s .reply ≤ 10
+answer-in-table f c s = number-le-ten f c s
+
+-- ---- "In a table our calls wrote, a wheel not yet driven can't be read: that is refusal 5." A history is a list of calls, with any arguments and whatever each answered, from an accepted set-up of
+-- whatever was lent. A read of a used wheel is then refused with 5 exactly where no accepted drive came, or where an accepted set-up, add or aim came after the last.
+module _ (f : Format) (lent : State) (up forward : ℕ) (l : List Call) (set-up : accepted f (SetUp up forward) lent ≡ true) where
+  pub not-driven-refused : (i : ℕ) → i < countAfter f (SetUp up forward ∷ l) lent → drivenSince f (SetUp up forward ∷ l) lent ≡ false
+      → readAfter f (SetUp up forward ∷ l) lent i ≡ 5
+  not-driven-refused i u h =
+      let now = runAll f (SetUp up forward ∷ l) lent in
+      let past = history-from-set-up f lent up forward l set-up in
+      read-number f (now .table) (now .whole) i ∙ five-of-not-driven (now .table) (now .whole) i (past .shape) u (past .mark ∙ h)
+
+  pub driven-not-refused : (i : ℕ) → i < countAfter f (SetUp up forward ∷ l) lent → drivenSince f (SetUp up forward ∷ l) lent ≡ true
+      → readAfter f (SetUp up forward ∷ l) lent i ≡ 5 → ⊥
+  driven-not-refused i u h e =
+      let now = runAll f (SetUp up forward ∷ l) lent in
+      let past = history-from-set-up f lent up forward l set-up in
+      not-five-of-driven (now .table) (now .whole) i (past .shape) u (past .mark ∙ h) (sym (read-number f (now .table) (now .whole) i) ∙ e)
+
+  -- so a read that is accepted comes after an accepted drive, with no accepted set-up, add or aim since
+  pub read-only-when-driven : (i : ℕ) → accepted f (ReadWheel i) (runAll f (SetUp up forward ∷ l) lent) ≡ true → drivenSince f (SetUp up forward ∷ l) lent ≡ true
+  unfolding accepted answered
+  read-only-when-driven i h =
+      let now = runAll f (SetUp up forward ∷ l) lent in
+      let z : refuseRead (now .table) (now .whole) i ≡ 0 = sym (read-number f (now .table) (now .whole) i) ∙ eqb-true _ 0 h in
+      sym (history-from-set-up f lent up forward l set-up .mark) ∙ eq-eqb _ at.DRIVEN (read-says (now .table) (now .whole) i z .driven)
+
+-- ---- "Each public function's contract determines the full reply and each lent number afterwards, refusals too; show that two replies it allows are equal" (document 01): a contract
+-- is one equation between what a call answers and leaves and its definition, and any two that meet it are the same. Once for every call, and for each.
+pub contract-determines : {R : Type 0} {x : After R} {r r' : R} {t t' : List Float} {m m' : List ℕ} → after r t m ≡ x → after r' t' m' ≡ x → Same r r' t t' m m'
+contract-determines p q = same-of-after p q
+
+module _ (f : Format) (t : List Float) (m : List ℕ) {t₁ t₂ : List Float} {m₁ m₂ : List ℕ} where
+  pub set-up-determined : (up forward : ℕ) {r₁ r₂ : ℕ} → after r₁ t₁ m₁ ≡ setUp t m up forward → after r₂ t₂ m₂ ≡ setUp t m up forward → Same r₁ r₂ t₁ t₂ m₁ m₂
+  set-up-determined up forward p q = contract-determines p q
+
+  pub add-determined : (s : Settings) {r₁ r₂ : ℕ} → after r₁ t₁ m₁ ≡ addWheel t m s → after r₂ t₂ m₂ ≡ addWheel t m s → Same r₁ r₂ t₁ t₂ m₁ m₂
+  add-determined s p q = contract-determines p q
+
+  pub controls-determined : (i : ℕ) (c : Controls) {r₁ r₂ : ℕ} → after r₁ t₁ m₁ ≡ setControls f t m i c → after r₂ t₂ m₂ ≡ setControls f t m i c → Same r₁ r₂ t₁ t₂ m₁ m₂
+  controls-determined i c p q = contract-determines p q
+
+  pub aim-determined : (c : Chassis) {r₁ r₂ : Aimed} → after r₁ t₁ m₁ ≡ aimOf f t m c → after r₂ t₂ m₂ ≡ aimOf f t m c → Same r₁ r₂ t₁ t₂ m₁ m₂
+  aim-determined c p q = contract-determines p q
+
+  pub drive-determined : (r : Frame) (n : ℕ) {r₁ r₂ : Driven} → after r₁ t₁ m₁ ≡ driveOf f t m r n → after r₂ t₂ m₂ ≡ driveOf f t m r n → Same r₁ r₂ t₁ t₂ m₁ m₂
+  drive-determined r n p q = contract-determines p q
+
+  pub read-determined : (i : ℕ) {r₁ r₂ : Reading} → after r₁ t₁ m₁ ≡ readWheel t m i → after r₂ t₂ m₂ ≡ readWheel t m i → Same r₁ r₂ t₁ t₂ m₁ m₂
+  read-determined i p q = contract-determines p q
+
+-- ---- Demand 2. "Every accepted step equals the Rust module over document 01's vector arithmetic, bit for bit": from every stored state, the reply of an accepted drive, its table and its whole numbers are
+-- those of document 01's rules 3 to 10, worked out on the kept chassis; those of an accepted aim are rules 1 and 2.
+module _ (f : Format) (t : List Float) (m : List ℕ) where
+  pub accepted-drive : (r : Frame) (n : ℕ) → refuseDrive f t m r n ≡ 0
+      → driveOf f t m r n ≡ after (drivenBy t n (wholeStep f t (upOf m) r n)) (wholeStep f t (upOf m) r n .table) (marked m at.DRIVEN)
+  unfolding driveOf
+  accepted-drive r n h = settled-done _ notDriven _ t m h
+
+  pub accepted-aim : (c : Chassis) → refuseAim f t m c ≡ 0
+      → aimOf f t m c ≡ after (aimedBy f (forwardOf m) c (countOf m) (aimedTable f c (countOf m) t)) (aimedTable f c (countOf m) t) (marked m at.AIMED)
+  unfolding aimOf
+  accepted-aim c h = settled-done _ notAimed _ t m h
+
+-- ---- Demand 3. "Each tyre gets its own grip and no more." `d` is a drive, with what it is lent and handed; i is the number of a wheel.
+module _ (f : Format) (d : Step) (i : ℕ) where
+  -- "If its demand does not pass the slide test, its two impulses are exactly the demand." Whatever the limit.
+  pub not-sliding-is-demand : Grounded f d i → slidesAt f d i ≡ false → (forwardImpulse f d i ≡ forwardDemand f d i) × (sideImpulse f d i ≡ sideDemand f d i)
+  not-sliding-is-demand g h =
+      let same = not-sliding f (forwardDemand f d i) (sideDemand f d i) (gripLimit f d i) h in
+      (forward-rescaled f d i g ∙ same .0, side-rescaled f d i g ∙ same .1)
+
+  -- "In an accepted step, let a grounded wheel's grip limit be at least 2^-40. .. If it passes, a quarter of the forward impulse squared plus the side impulse squared is, in exact arithmetic, within one part
+  -- in 2^20 of the limit squared." `precision binary32` is 2^20.
+  pub sliding-grips : Grounded f d i → le leastLimit (gripLimit f d i) ≡ true → slidesAt f d i ≡ true → Grips f (precision f) (forwardImpulse f d i) (sideImpulse f d i) (gripLimit f d i)
+  sliding-grips g l h =
+      subst (λ (x : Float). Grips f (precision f) x (sideImpulse f d i) (gripLimit f d i)) (sym (forward-rescaled f d i g))
+      (subst (λ (x : Float). Grips f (precision f) (rescaledBy f (skidOf f (forwardDemand f d i) (sideDemand f d i) (gripLimit f d i)) (forwardDemand f d i)) x (gripLimit f d i)) (sym (side-rescaled f d i g))
+      (sliding f (forwardDemand f d i) (sideDemand f d i) (gripLimit f d i) (forward-admitted f d i g) (side-admitted f d i g) (record { admitted = limit-admitted f d i g; at-least = l }) h))
+
+  -- "An unpowered wheel's forward impulse never exceeds its brake in size." Grounded or not.
+  pub unpowered-within-brake : Stepped f d i → poweredAt d i ≡ false → WithinBrake f (brakeOf d i) (forwardImpulse f d i)
+  unpowered-within-brake s h = within-brake f d i s h
+
+-- "Between two accepted steps with the same time step, ground bodies, kept chassis, chassis state after the springs, number of grounded wheels and own stored row and hit, no other wheel's settings or contact
+-- change a wheel's two impulses." Nor its skid.
+pub impulses-are-its-own : {f : Format} {d e : Step} {i : ℕ} → Accepted f d → Accepted f e → i < d .n → i < e .n → Alike f d e i
+    → (forwardImpulse f d i ≡ forwardImpulse f e i) × (sideImpulse f d i ≡ sideImpulse f e i)
+impulses-are-its-own p q u v a =
+    let same = friction-alike p q u v a in
+    (ap (λ (x : Friction). x .forward) same, ap (λ (x : Friction). x .side) same)

@@ -1,0 +1,1 @@
+// The three demands as theorems: proofs/Demands.antt. There is no code here.

@@ -1,0 +1,95 @@
+-- What a tried step answers and leaves. In order: refused with 7, refused with 8, done; how the drive settles with it, and without it. Assumes nothing.
+use Prim.Native.Nat.{ℕ, zero, suc}
+use mathlib.Core.Bool.{Bool, true, false, not}
+use mathlib.Core.List.{List}
+use mathlib.Core.Path.{_≡_, refl, sym, ap, _∙_}
+use native.Mathlib.Omega.{arith}
+use borrow.Author.Tests.{eq-eqb, ne-eqb, not-true, not-false}
+use lib.Dec.{eqb}
+use lib.Ieee.{Float, Format}
+use Rattle.lists.specs.Pick.{pick}
+use Rattle.lists.specs.Refusal.{firstFailed}
+use Rattle.lists.proofs.Refusals.{append-refused-by, append-passed}
+use Rattle.body.specs.declared.Chassis.{Chassis}
+use Rattle.table.specs.Layout as at
+use Rattle.table.specs.Bounds.{storedWithin}
+use Rattle.passes.specs.Frame.{Frame}
+use Rattle.passes.specs.Passes.{Work, work, pushedWork, storedWork, demandsAdmitted}
+use Rattle.refusals.specs.Shape.{upOf}
+use Rattle.refusals.specs.After.{after, marked}
+use Rattle.refusals.proofs.Settles.{settled-refused, settled-done}
+use Rattle.drive.specs.declared.Driven.{Driven}
+use Rattle.drive.specs.Drive.{demandStep, wholeStep, earlyTests, stepTests, refuseDrive, wakes, notDriven, drivenBy, Tried, tried, tryDrive, driveOf}
+use Rattle.drive.proofs.Refused.{early-numbered}
+
+-- the step on a copy of the table: `demanded` and c after the demands, `last` and c' at its end
+module _ (f : Format) (t copied demanded : List Float) (up : ℕ) (r : Frame) (n : ℕ) (c : Chassis) (admitted : Bool) where
+  pub tried-7 : (reply : Driven) → copied ≡ t → work demanded c ≡ demandStep f copied r n
+      → admitted ≡ demandsAdmitted f (r .dt) (r .answers) n demanded → not admitted ≡ true
+      → reply ≡ notDriven 7 → tried reply t ≡ tryDrive f t up r n
+  unfolding tryDrive stepTests firstFailed pick
+  tried-7 reply e w p q l = rw (l, ← e, ← w, ← p, not-true admitted q)
+
+  module _ (last : List Float) (c' : Chassis) (within : Bool) where
+    whole-is : copied ≡ t → work demanded c ≡ demandStep f copied r n
+        → work last c' ≡ storedWork f (r .dt) (r .answers) n (pushedWork f up n (work demanded c)) → wholeStep f t up r n ≡ work last c'
+    unfolding wholeStep
+    whole-is e w x = rw (← e, ← w, ← x)
+
+    pub tried-8 : (reply : Driven) → copied ≡ t → work demanded c ≡ demandStep f copied r n
+        → admitted ≡ demandsAdmitted f (r .dt) (r .answers) n demanded → not admitted ≡ false
+        → work last c' ≡ storedWork f (r .dt) (r .answers) n (pushedWork f up n (work demanded c))
+        → within ≡ storedWithin last n → not within ≡ true
+        → reply ≡ notDriven 8 → tried reply t ≡ tryDrive f t up r n
+    unfolding tryDrive stepTests firstFailed pick
+    tried-8 reply e w p q x s u l = rw (l, whole-is e w x, ← e, ← w, ← p, not-false admitted q, ← s, not-true within u)
+
+    pub tried-done : (t' : List Float) (wake : Bool) → copied ≡ t → work demanded c ≡ demandStep f copied r n
+        → admitted ≡ demandsAdmitted f (r .dt) (r .answers) n demanded → not admitted ≡ false
+        → work last c' ≡ storedWork f (r .dt) (r .answers) n (pushedWork f up n (work demanded c))
+        → within ≡ storedWithin last n → not within ≡ false
+        → wake ≡ wakes t n → t' ≡ last
+        → tried (record { number = 0; linvel = c' .body .linvel; angvel = c' .body .angvel; wake = wake }) t' ≡ tryDrive f t up r n
+    unfolding tryDrive stepTests firstFailed pick drivenBy
+    tried-done t' wake e w p q x s u v l = rw (l, v, whole-is e w x, ← e, ← w, ← p, not-false admitted q, ← s, not-false within u)
+
+-- ---- what a tried step says of the drive, whose reply has the number of the first failed test of the step
+module _ (f : Format) (t t' : List Float) (m : List ℕ) (r : Frame) (n : ℕ) (reply : Driven) (h : tried reply t' ≡ tryDrive f t (upOf m) r n) where
+  number-of-tried : reply .number ≡ firstFailed (stepTests f t (upOf m) r n)
+  unfolding tryDrive drivenBy notDriven pick
+  number-of-tried = ap (λ (s : Tried). s .reply .number) h ∙ go (firstFailed (stepTests f t (upOf m) r n))
+    where
+      go : (number : ℕ)
+          → pick (eqb number 0) (tried (drivenBy t n (wholeStep f t (upOf m) r n)) (wholeStep f t (upOf m) r n .table)) (tried (notDriven number) t) .reply .number ≡ number
+      go zero = refl
+      go (suc k) = rw (ne-eqb (suc k) 0 (λ e. omega arith))
+
+  tried-accepted : reply .number ≡ 0 → tried reply t' ≡ tried (drivenBy t n (wholeStep f t (upOf m) r n)) (wholeStep f t (upOf m) r n .table)
+  unfolding tryDrive pick
+  tried-accepted e = h ∙ rw (← number-of-tried, eq-eqb (reply .number) 0 e)
+
+  tried-refused : (reply .number ≡ 0 → ⊥) → tried reply t' ≡ tried (notDriven (reply .number)) t
+  unfolding tryDrive pick
+  tried-refused e = h ∙ rw (← number-of-tried, ne-eqb (reply .number) 0 e)
+
+  module _ (number : ℕ) (p : number ≡ firstFailed (earlyTests f t m r n)) (q : number ≡ 0) where
+    number-of-drive : reply .number ≡ refuseDrive f t m r n
+    unfolding refuseDrive
+    number-of-drive = number-of-tried ∙ sym (append-passed (earlyTests f t m r n) _ (early-numbered f t m r n) (sym p ∙ q))
+
+    pub drive-accepted : reply .number ≡ 0 → after reply t' (marked m at.DRIVEN) ≡ driveOf f t m r n
+    unfolding driveOf
+    drive-accepted e =
+        settled-done (reply .number) _ notDriven _ _ t m number-of-drive e (ap (λ (s : Tried). after (s .reply) (s .table) (marked m at.DRIVEN)) (tried-accepted e))
+
+    pub drive-refused-late : (reply .number ≡ 0 → ⊥) → after reply t' m ≡ driveOf f t m r n
+    unfolding driveOf
+    drive-refused-late e =
+        ap (λ (s : Tried). after (s .reply) (s .table) m) (tried-refused e)
+        ∙ settled-refused (reply .number) _ notDriven _ _ t m number-of-drive e refl
+
+-- refused before the step is tried
+pub drive-refused : (f : Format) (t : List Float) (m : List ℕ) (r : Frame) (n number : ℕ) (reply : Driven)
+    → number ≡ firstFailed (earlyTests f t m r n) → (number ≡ 0 → ⊥) → reply ≡ notDriven number → after reply t m ≡ driveOf f t m r n
+unfolding driveOf refuseDrive
+drive-refused f t m r n number reply p q e = settled-refused number _ notDriven reply _ t m (append-refused-by _ _ number p q) q e

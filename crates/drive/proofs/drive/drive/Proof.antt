@@ -1,0 +1,56 @@
+-- `drive::drive::drive` meets its contract: refused early, refused by the step, or done. Assumes nothing.
+use native.Mathlib.Omega.{arith}
+use mathlib.Core.Path.{_≡_, sym, _∙_}
+use borrow.Author.Needs.{needs}
+use Rattle.drive.proofs.Refused.{Fits, early-says}
+use Rattle.drive.proofs.Tries.{drive-accepted, drive-refused-late, drive-refused}
+use Rattle.drive.proofs.drive.drive.Statement.{statement}
+use Rattle.drive.proofs.drive.drive.Tie as tie
+
+-- what the refusals that were not given say
+fits : (c : tie.Else1) → let a = c .before .before .before .before .before .before .before .before .args in Fits (a .table .now) (a .whole .now) (a .bodies .now) (a .dynamic .now) (a .answers) (a .n)
+fits c = early-says _ _ _ _ _ (sym (c .before .refuse-drive .ensures) ∙ c .if1 .left)
+
+returns : tie.Need-returns
+returns c = drive-refused _ _ _ _ _ _ _ (c .before .before .refuse-drive .ensures) (c .before .if1 .taken) (c .not-driven .ensures)
+
+slice-read-up : tie.Need-slice-read-up
+slice-read-up c =
+    let s = fits (c .before) .shape in
+    omega arith
+
+try-drive-requires : tie.Need-try-drive-requires
+try-drive-requires c κs =
+    let h = fits (c .before .before) in
+    let s = h .shape in
+    (s .sized, omega arith, h .listed, h .room, h .sized)
+
+slice-write-whole : tie.Need-slice-write-whole
+slice-write-whole c =
+    let s = fits (c .before .before .before .before .before .before .before) .shape in
+    omega arith
+
+returns-2 : tie.Need-returns-2
+returns-2 c = drive-accepted _ _ _ _ _ _ _ (c .before .before .before .before .try-drive .ensures) _ (c .before .before .before .before .before .before .before .before .refuse-drive .ensures) (c .before .before .before .before .before .before .before .if1 .left) (c .if2 .taken)
+
+returns-3 : tie.Need-returns-3
+returns-3 c = drive-refused-late _ _ _ _ _ _ _ (c .before .before .before .before .try-drive .ensures) _ (c .before .before .before .before .before .before .before .before .refuse-drive .ensures) (c .before .before .before .before .before .before .before .if1 .left) (c .if2 .left)
+
+pub drive-spec : {M : Type 1} → statement M
+drive-spec =
+    tie.close
+    (tie.spec
+    (λ c κs. tt)
+    (λ c κs. tt)
+    (λ c. search needs)
+    (λ c. search needs)
+    returns
+    slice-read-up
+    try-drive-requires
+    slice-write-whole
+    (λ c. c .before .before .before .before .try-drive .kept .0)
+    (λ c. search needs)
+    returns-2
+    (λ c. c .before .before .before .before .try-drive .kept .0)
+    (λ c. search needs)
+    returns-3)

@@ -1,0 +1,40 @@
+-- `drive::drive::refuse_drive` meets its contract: one list of tests after another. Assumes nothing.
+use native.Mathlib.Omega.{arith}
+use mathlib.Core.Path.{_≡_, sym, _∙_}
+use Rattle.lists.proofs.Refusals.{append-refused-by, append-passed}
+use Rattle.drive.specs.Drive.{earlyTests}
+use Rattle.drive.proofs.Refused.{frame-numbered, handed-numbered, frame-says}
+use Rattle.drive.proofs.drive.refuse_drive.Statement.{statement}
+use Rattle.drive.proofs.drive.refuse_drive.Tie as tie
+
+returns : tie.Need-returns
+unfolding earlyTests
+returns c = append-refused-by _ _ _ (append-refused-by _ _ _ (c .before .refuse-frame .ensures) (c .if1 .taken)) (c .if1 .taken)
+
+refuse-numbers-requires : tie.Need-refuse-numbers-requires
+refuse-numbers-requires c κs =
+    let h = frame-says _ _ _ _ _ _ (sym (c .before .refuse-frame .ensures) ∙ c .if1 .left) in
+    let s = h .shape in
+    (s .sized, omega arith)
+
+returns-2 : tie.Need-returns-2
+unfolding earlyTests
+returns-2 c =
+    let passed = append-passed _ _ (frame-numbered _ _ _ _ _ _) (sym (c .before .before .before .refuse-frame .ensures) ∙ c .before .before .if1 .left) in
+    append-refused-by _ _ _ (c .before .refuse-numbers .ensures ∙ sym passed) (c .if2 .taken)
+
+refuse-ranges-requires : tie.Need-refuse-ranges-requires
+refuse-ranges-requires c κs =
+    let h = frame-says _ _ _ _ _ _ (sym (c .before .before .before .refuse-frame .ensures) ∙ c .before .before .if1 .left) in
+    let s = h .shape in
+    (s .sized, omega arith, h .room, h .sized)
+
+returns-3 : tie.Need-returns-3
+unfolding earlyTests
+returns-3 c =
+    let passed = append-passed _ _ (frame-numbered _ _ _ _ _ _) (sym (c .before .before .before .before .refuse-frame .ensures) ∙ c .before .before .before .if1 .left) in
+    c .refuse-ranges .ensures
+    ∙ sym (append-passed _ _ (handed-numbered _ _ _ _ _ _ _) (passed ∙ sym (c .before .before .refuse-numbers .ensures) ∙ c .before .if2 .left))
+
+pub refuse-drive-spec : {M : Type 1} → statement M
+refuse-drive-spec = tie.close (tie.spec (λ c κs. tt) returns refuse-numbers-requires returns-2 refuse-ranges-requires returns-3)

@@ -1,0 +1,43 @@
+-- `drive::step::demand_step` meets its contract: each pass takes what the one before it left. Assumes nothing.
+use mathlib.Core.Path.{_∙_}
+use Rattle.drive.proofs.Steps.{demand-step-of-passes}
+use Rattle.drive.proofs.step.demand_step.Statement.{statement}
+use Rattle.drive.proofs.step.demand_step.Tie as tie
+
+suspension-pass-requires : tie.Need-suspension-pass-requires
+suspension-pass-requires c κs =
+    let p = c .before .before .before .before .before .before .before .before .before .before .before .pre in
+    (c .before .before .before .cast-pass .kept .0 ∙ p .0, p .1)
+
+spring-pass-requires : tie.Need-spring-pass-requires
+spring-pass-requires c κs =
+    let p = c .before .before .before .before .before .before .before .before .before .before .before .before .before .before .before .pre in
+    (c .before .before .before .suspension-pass .kept .0 ∙ c .before .before .before .before .before .before .before .cast-pass .kept .0 ∙ p .0, p .1)
+
+friction-pass-requires : tie.Need-friction-pass-requires
+friction-pass-requires c κs =
+    let p = c .before .before .before .before .before .before .before .before .before .before .before .before .before .before .before .before .before .before .pre in
+    (c .before .before .before .before .before .before .suspension-pass .kept .0 ∙ c .before .before .before .before .before .before .before .before .before .before .cast-pass .kept .0 ∙ p .0, p .1, p .2, p .3, p .4)
+
+same-length : tie.Need-same-length
+same-length c = c .before .before .friction-pass .kept .0 ∙ c .before .before .before .before .before .before .before .before .before .suspension-pass .kept .0 ∙ c .before .before .before .before .before .before .before .before .before .before .before .before .before .cast-pass .kept .0
+
+returns : tie.Need-returns
+returns c =
+    let spring = c .before .before .before .before .before in
+    let cast = spring .before .before .before .before .before .before .before .before in
+    demand-step-of-passes _ _ _ _ _ _ _ _ _ _ (cast .before .before .before .get-chassis .ensures) (cast .cast-pass .ensures) (c .before .before .before .before .before .before .before .before .before .suspension-pass .ensures)
+    (spring .spring-pass .ensures) (c .before .before .before .before .count-grounded .ensures) (c .before .before .friction-pass .ensures)
+
+pub demand-step-spec : {M : Type 1} → statement M
+demand-step-spec =
+    tie.close
+    (tie.spec
+    (λ c κs. c .before .before .before .before .pre .0)
+    (λ c κs. (c .before .before .before .before .before .before .before .pre .0, c .before .before .before .before .before .before .before .pre .1))
+    suspension-pass-requires
+    spring-pass-requires
+    (λ c κs. c .before .before .before .before .before .before .before .before .before .before .before .before .before .before .before .before .pre .1)
+    friction-pass-requires
+    same-length
+    returns)

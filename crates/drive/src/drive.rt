@@ -1,0 +1,218 @@
+// Drive.
+use super::Driven;
+use refusals::handed;
+use refusals::ranges;
+use refusals::shape;
+use table::bounds::HANDED;
+use table::layout::AIMED;
+use table::layout::BODIES;
+use table::layout::BODY;
+use table::layout::COUNT;
+use table::layout::DRIVEN;
+use table::layout::MARK;
+use table::layout::SIZE;
+use table::layout::UP;
+use wheel::RayAnswer;
+ghost use mathlib.Core.Path.{_≡_};
+ghost use Prim.Native.Nat.{ℕ, _*_, _<_, _≤_};
+ghost use lib.ListN.{length};
+ghost use lib.Ieee.{binary32};
+ghost use Rattle.lists.specs.Refusal.{firstFailed};
+ghost use Rattle.table.specs.Layout as at;
+ghost use Rattle.wheel.specs.Ray.{namedOf};
+ghost use Rattle.passes.specs.Frame.{frame, answerAt};
+ghost use Rattle.refusals.specs.After.{after};
+ghost use Rattle.drive.specs.Drive.{earlyTests, frameTests, numberTests, rangeTests, wakes, notDriven, tried, tryDrive, driveOf};
+
+// Refusals 1, 5 and 6.
+fn refuse_frame(
+    table: &[f32],
+    whole: &[u32],
+    bodies: &[f32],
+    dynamic: &[bool],
+    answers: [RayAnswer; 16],
+    n: usize,
+) -> u32
+    ensures { λ r. ⌜ r ≡ firstFailed (frameTests (now (table .entry)) (now (whole .entry)) (now (bodies .entry)) (now (dynamic .entry)) answers n) ⌝ }
+{
+    if !shape::is_shape_ok(table, whole) {
+        return 1;
+    }
+    if whole[MARK] != AIMED {
+        return 5;
+    }
+    if n != whole[COUNT] as usize {
+        return 6;
+    }
+    let count = dynamic.len();
+    if count > BODIES {
+        return 6;
+    }
+    if bodies.len() != count * BODY {
+        return 6;
+    }
+    if !handed::are_answers_ok(count as u32, answers, n) {
+        return 6;
+    }
+    0
+}
+
+// Refusal 2.
+fn refuse_numbers(table: &[f32], dt: f32, bodies: &[f32], answers: [RayAnswer; 16], n: usize) -> u32
+    requires { ⌜ (length (now table) ≡ at.SIZE) × (n ≤ at.WHEELS) ⌝ }
+    ensures { λ r. ⌜ r ≡ firstFailed (numberTests (now (table .entry)) dt (now (bodies .entry)) answers n) ⌝ }
+{
+    if !real::is_within(HANDED, dt) {
+        return 2;
+    }
+    if !table::bounds::all_within(HANDED, bodies) {
+        return 2;
+    }
+    if !handed::are_all_normals_handed(answers, n) {
+        return 2;
+    }
+    if !table::bounds::stored_within(table, n) {
+        return 2;
+    }
+    0
+}
+
+// Refusal 10, with `count` ground bodies.
+fn refuse_ranges(table: &[f32], dt: f32, bodies: &[f32], count: usize, n: usize) -> u32
+    requires { ⌜ (length (now table) ≡ at.SIZE) × (n ≤ at.WHEELS) × (count ≤ at.BODIES) × (length (now bodies) ≡ count * at.BODY) ⌝ }
+    ensures { λ r. ⌜ r ≡ firstFailed (rangeTests binary32 (now (table .entry)) dt (now (bodies .entry)) count n) ⌝ }
+{
+    if !ranges::is_in_unit(dt) {
+        return 10;
+    }
+    if !ranges::are_bodies_in_range(bodies, count) {
+        return 10;
+    }
+    if !ranges::is_stored_in_range(table, n) {
+        return 10;
+    }
+    if !ranges::is_chassis_in_range(table::rows::get_chassis(table)) {
+        return 10;
+    }
+    0
+}
+
+// Refusals 1, 5, 6, 2 and 10, in this order.
+fn refuse_drive(
+    table: &[f32],
+    whole: &[u32],
+    dt: f32,
+    bodies: &[f32],
+    dynamic: &[bool],
+    answers: [RayAnswer; 16],
+    n: usize,
+) -> u32
+    ensures { λ r. ⌜ r ≡ firstFailed (earlyTests binary32 (now (table .entry)) (now (whole .entry)) (frame dt (now (bodies .entry)) (now (dynamic .entry)) answers) n) ⌝ }
+{
+    let a = refuse_frame(table, whole, bodies, dynamic, answers, n);
+    if a != 0 {
+        return a;
+    }
+    let b = refuse_numbers(table, dt, bodies, answers, n);
+    if b != 0 {
+        return b;
+    }
+    refuse_ranges(table, dt, bodies, dynamic.len(), n)
+}
+
+// Whether any engine force of the first n wheels is above 0.
+fn wakes_up(table: &[f32], n: usize) -> bool
+    requires { ⌜ (length (now table) ≡ at.SIZE) × (n ≤ at.WHEELS) ⌝ }
+    ensures { λ r. ⌜ r ≡ wakes (now (table .entry)) n ⌝ }
+{
+    let mut i = 0usize;
+    while i < n {
+        let w = table::rows::get_wheel(table, i);
+        if w.controls.engine > 0.0 {
+            return true;
+        }
+        i += 1usize;
+    }
+    false
+}
+
+fn not_driven(number: u32) -> Driven
+    ensures { λ r. ⌜ r ≡ notDriven number ⌝ }
+{
+    let zero = vector::zero();
+    Driven {
+        number,
+        linvel: zero,
+        angvel: zero,
+        wake: false,
+    }
+}
+
+// The step on a copy of the table, which takes the table's place only if it is accepted: refusals 7 and 8.
+fn try_drive(
+    table: &mut [f32],
+    up: u32,
+    dt: f32,
+    bodies: &[f32],
+    dynamic: &[bool],
+    answers: [RayAnswer; 16],
+    n: usize,
+) -> Driven
+    requires { ⌜ (length (now table) ≡ at.SIZE) × (n ≤ at.WHEELS) × ((i : ℕ) → i < n → namedOf (answerAt answers i) ≤ length (now dynamic)) × (length (now dynamic) ≤ at.BODIES) × (length (now bodies) ≡ length (now dynamic) * at.BODY) ⌝ }
+    ensures { λ r. ⌜ tried r (now (table .exit)) ≡ tryDrive binary32 (now (table .entry)) up (frame dt (now (bodies .entry)) (now (dynamic .entry)) answers) n ⌝ }
+{
+    let mut work = [0.0; SIZE];
+    table::rows::copy(&mut work, &table[..]);
+    let c = super::step::demand_step(&mut work, dt, bodies, dynamic, answers, n);
+    if !passes::chassis::are_admitted(&work, n, dt, answers) {
+        return not_driven(7);
+    }
+    let after = super::step::finish_step(&mut work, up, dt, answers, n, c);
+    if !table::bounds::stored_within(&work, n) {
+        return not_driven(8);
+    }
+    let wake = wakes_up(&table[..], n);
+    table::rows::copy(table, &work);
+    let b = after.body;
+    let linvel = b.linvel;
+    let angvel = b.angvel;
+    Driven {
+        number: 0,
+        linvel,
+        angvel,
+        wake,
+    }
+}
+
+// Drives the vehicle by one step on the chassis that the aim kept, and stores everything or nothing. The mark becomes driven.
+// Takes: the table and the whole numbers of an aimed vehicle; the time step; the ground bodies, 16 numbers each (centre of mass, linear and
+// angular velocity, inverse mass, six of inverse inertia), with a flag for each that says if it is dynamic; the ray answers, of which the
+// first n count.
+// Answers the number 0 with the chassis' new velocities and whether it is to be woken; or refuses with the first that holds, and zeros:
+// 1, no vehicle's table; 5, not aimed; 6, not one answer for each wheel, over 64 bodies or numbers that do not fit them, a time that is NaN
+// or not from 0 to 1, or a body that is not in the list; 2, a number handed in that is not finite or above 2^20 in magnitude, or a stored
+// one that is not finite or above 2^40; 10, a time step not from 0 to 1, a body whose inverse mass is below 0, or a stored setting or kept
+// chassis out of its range; 7, a demand or grip limit of a grounded wheel that is NaN or above 2^40 in magnitude; 8, a new number that could
+// not be stored.
+pub fn drive(
+    table: &mut [f32],
+    whole: &mut [u32],
+    dt: f32,
+    bodies: &[f32],
+    dynamic: &[bool],
+    answers: [RayAnswer; 16],
+    n: usize,
+) -> Driven
+    ensures { λ r. ⌜ after r (now (table .exit)) (now (whole .exit)) ≡ driveOf binary32 (now (table .entry)) (now (whole .entry)) (frame dt (now (bodies .entry)) (now (dynamic .entry)) answers) n ⌝ }
+{
+    let number = refuse_drive(&table[..], &whole[..], dt, bodies, dynamic, answers, n);
+    if number != 0 {
+        return not_driven(number);
+    }
+    let up = whole[UP];
+    let r = try_drive(table, up, dt, bodies, dynamic, answers, n);
+    if r.number == 0 {
+        whole[MARK] = DRIVEN;
+    }
+    r
+}

@@ -1,0 +1,12 @@
+-- `vehicle::add::new_wheel` meets its contract: the definition, replayed as the code runs. Assumes nothing.
+use lib.Ieee.{ofBits}
+use Rattle.vehicle.specs.Add.{newWheel}
+use Rattle.vehicle.proofs.add.new_wheel.Statement.{statement}
+use Rattle.vehicle.proofs.add.new_wheel.Tie as tie
+
+returns : tie.Need-returns
+unfolding newWheel ofBits
+returns c = rw (← c .before .before .zero .ensures)
+
+pub new-wheel-spec : {M : Type 1} → statement M
+new-wheel-spec = tie.close (tie.spec (λ c κs. tt) returns)

@@ -1,0 +1,29 @@
+-- `vehicle::read::read_wheel` meets its contract: it is refused with nothing changed, or answers the wheel's reading. Assumes nothing.
+use mathlib.Core.Path.{_≡_, sym, ap, _∙_}
+use native.Mathlib.Omega.{arith}
+use Rattle.refusals.specs.After.{after}
+use Rattle.refusals.proofs.Settles.{settled-refused, settled-done}
+use Rattle.vehicle.specs.declared.Reading.{Reading}
+use Rattle.vehicle.specs.Read.{readWheel, readingOf}
+use Rattle.vehicle.proofs.Allowed.{read-allowed}
+use Rattle.vehicle.proofs.read.read_wheel.Statement.{statement}
+use Rattle.vehicle.proofs.read.read_wheel.Tie as tie
+
+returns : tie.Need-returns
+unfolding readWheel
+returns c = settled-refused _ _ _ _ _ _ _ (c .before .before .refuse-read .ensures) (c .before .if1 .taken) (c .not-read .ensures)
+
+get-wheel-requires : tie.Need-get-wheel-requires
+get-wheel-requires c κs =
+    let r = read-allowed _ _ _ (sym (c .before .refuse-read .ensures) ∙ c .if1 .left) in
+    omega arith
+
+returns-2 : tie.Need-returns-2
+unfolding readWheel
+returns-2 c =
+    let a = c .before .before .before .before .before .before .args in
+    settled-done _ _ _ _ _ _ _ (c .before .before .before .refuse-read .ensures) (c .before .before .if1 .left)
+    (ap (λ (r : Reading). after r (a .table .now) (a .whole .now)) (c .reading .ensures ∙ ap readingOf (c .before .get-wheel .ensures)))
+
+pub read-wheel-spec : {M : Type 1} → statement M
+read-wheel-spec = tie.close (tie.spec (λ c κs. tt) (λ c κs. tt) returns get-wheel-requires (λ c κs. tt) returns-2)

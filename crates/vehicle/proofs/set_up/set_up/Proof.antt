@@ -1,0 +1,64 @@
+-- `vehicle::set_up::set_up` meets its contract: it is refused with nothing changed, or leaves a vehicle with no wheels. Assumes nothing.
+use Prim.Native.Nat.{ℕ, _<_}
+use mathlib.Core.Path.{_≡_, refl, sym, _∙_}
+use native.Mathlib.Omega.{arith}
+use borrow.Author.Needs.{needs}
+use lib.ListN.{length}
+use lib.Ieee.{ofBits}
+use Rattle.table.specs.Layout as at
+use Rattle.refusals.proofs.Says.{Sizes}
+use Rattle.refusals.proofs.Settles.{settled-refused, settled-done}
+use Rattle.vehicle.specs.SetUp.{setUp}
+use Rattle.vehicle.proofs.Allowed.{set-up-allowed, whole-set-up}
+use Rattle.vehicle.proofs.set_up.set_up.Statement.{statement}
+use Rattle.vehicle.proofs.set_up.set_up.Tie as tie
+
+-- the sizes, once it is not refused
+sizes : (c : tie.Else1) → Sizes (c .before .before .before .before .before .before .args .table .now) (c .before .before .before .before .before .before .args .whole .now)
+sizes c = set-up-allowed _ _ _ _ (sym (c .before .refuse-set-up .ensures) ∙ c .if1 .left)
+
+place : (c : tie.Else1) (k : ℕ) → k < at.WHOLE → k < length (c .before .before .before .before .before .before .args .whole .now)
+place c k l = let s = sizes c in omega arith
+
+returns : tie.Need-returns
+unfolding setUp
+returns c = settled-refused _ _ _ _ _ _ _ (c .before .refuse-set-up .ensures) (c .if1 .taken) refl
+
+copy-requires : tie.Need-copy-requires
+copy-requires c κs = let s = sizes (c .before .before) in omega arith
+
+slice-write-whole : tie.Need-slice-write-whole
+slice-write-whole c = let l = place (c .before .before .before .before .before) at.COUNT (omega arith) in search needs
+
+slice-write-whole-2 : tie.Need-slice-write-whole-2
+slice-write-whole-2 c = let l = place (c .before .before .before .before .before) at.MARK (omega arith) in search needs
+
+slice-write-whole-3 : tie.Need-slice-write-whole-3
+slice-write-whole-3 c = let l = place (c .before .before .before .before .before) at.UP (omega arith) in search needs
+
+slice-write-whole-4 : tie.Need-slice-write-whole-4
+slice-write-whole-4 c = let l = place (c .before .before .before .before .before) at.FORWARD (omega arith) in search needs
+
+returns-2 : tie.Need-returns-2
+unfolding setUp ofBits
+returns-2 c =
+    settled-done _ _ _ _ _ _ _ (c .before .before .before .before .before .before .refuse-set-up .ensures) (c .before .before .before .before .before .if1 .left)
+    (rw (c .before .before .copy .ensures, whole-set-up _ _ _ (sizes (c .before .before .before .before .before) .four)))
+
+pub set-up-spec : {M : Type 1} → statement M
+set-up-spec =
+    tie.close
+    (tie.spec
+    (λ c κs. tt)
+    (λ c. search needs)
+    (λ c. search needs)
+    returns
+    (λ c. search needs)
+    copy-requires
+    slice-write-whole
+    slice-write-whole-2
+    slice-write-whole-3
+    slice-write-whole-4
+    (λ c. search needs)
+    (λ c. search needs)
+    returns-2)

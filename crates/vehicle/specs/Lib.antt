@@ -1,0 +1,4 @@
+pub mod SetUp
+pub mod Add
+pub mod Controls
+pub mod Read
