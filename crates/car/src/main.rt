@@ -98,25 +98,33 @@ fn go(table: &mut [f32], whole: &mut [u32], answers: [RayAnswer; 16]) -> Driven 
     drive::drive::drive(table, whole, 0.5, &bodies, &dynamic, answers, 4)
 }
 
-// Two wheels that slide, one with its engine and one on its brake, one that slides sideways, and one that grips.
-fn first_frame(table: &mut [f32], whole: &mut [u32]) {
+// An aim with this velocity, and a drive with what the rays met.
+fn frame(table: &mut [f32], whole: &mut [u32], linvel: Vector, answers: [RayAnswer; 16]) {
+    show::aimed(drive::aim::aim(table, whole, chassis(linvel)));
+    show::driven(go(table, whole, answers));
+}
+
+fn read_all(table: &[f32], whole: &[u32]) {
+    read(table, whole, 0);
+    read(table, whole, 1);
+    read(table, whole, 2);
+    read(table, whole, 3);
+}
+
+fn add_four(table: &mut [f32], whole: &mut [u32]) {
+    add(table, whole, 1.0, 1.0, 0.3125);
+    add(table, whole, 1.0, -1.0, 0.3125);
+    add(table, whole, -1.0, 1.0, 0.3125);
+    add(table, whole, -1.0, -1.0, 8.0);
+}
+
+fn control_two(table: &mut [f32], whole: &mut [u32]) {
     control(table, whole, 0, 12.0, 0.0);
     control(table, whole, 1, 0.0, 6.0);
-    show::aimed(drive::aim::aim(table, whole, chassis(v(12.0, 0.0, 5.0))));
-    show::driven(go(table, whole, on_the_ground()));
-    read(&table[..], &whole[..], 0);
-    read(&table[..], &whole[..], 1);
-    read(&table[..], &whole[..], 2);
-    read(&table[..], &whole[..], 3);
 }
 
-// A jump: no ray meets anything. The centre has the length of the drive before, and the wheel spins on.
-fn second_frame(table: &mut [f32], whole: &mut [u32]) {
-    show::aimed(drive::aim::aim(table, whole, chassis(v(-12.0, 0.0, 5.0))));
-    show::driven(go(table, whole, [RayAnswer::Nothing; 16]));
-    read(&table[..], &whole[..], 0);
-}
-
+// The first frame: two wheels that slide, one with its engine and one on its brake, one that slides sideways, and one that grips.
+// The second is a jump: no ray meets anything. The centre has the length of the drive before, and the wheel spins on.
 fn main() {
     let mut table = [0.0; SIZE];
     let mut whole = [0u32; 4];
@@ -124,11 +132,24 @@ fn main() {
         b"set up",
         vehicle::set_up::set_up(&mut table, &mut whole, 1, 0),
     );
-    add(&mut table, &mut whole, 1.0, 1.0, 0.3125);
-    add(&mut table, &mut whole, 1.0, -1.0, 0.3125);
-    add(&mut table, &mut whole, -1.0, 1.0, 0.3125);
-    add(&mut table, &mut whole, -1.0, -1.0, 8.0);
-    first_frame(&mut table, &mut whole);
-    second_frame(&mut table, &mut whole);
-    refusals_met::all(&mut table, &mut whole);
+    add_four(&mut table, &mut whole);
+    control_two(&mut table, &mut whole);
+    frame(&mut table, &mut whole, v(12.0, 0.0, 5.0), on_the_ground());
+    read_all(&table, &whole);
+    frame(
+        &mut table,
+        &mut whole,
+        v(-12.0, 0.0, 5.0),
+        [RayAnswer::Nothing; 16],
+    );
+    read(&table, &whole, 0);
+    refusals_met::set_up(&mut table, &mut whole);
+    refusals_met::controls(&mut table, &mut whole);
+    refusals_met::not_aimed(&mut table, &mut whole);
+    refusals_met::aims(&mut table, &mut whole);
+    refusals_met::not_driven(&table, &whole);
+    refusals_met::bad_frames(&mut table, &mut whole);
+    refusals_met::stored_too_large(&mut table, &mut whole);
+    refusals_met::wheels();
+    refusals_met::steps();
 }

@@ -10,45 +10,9 @@ use table::layout::KEPT;
 use table::layout::SIZE;
 use vehicle::WheelTuning;
 
-// Of the driven car.
-pub fn all(table: &mut [f32], whole: &mut [u32]) {
+// Refusal 1, of the driven car's table.
+pub fn set_up(table: &mut [f32], whole: &mut [u32]) {
     show::line(b"axis 3", vehicle::set_up::set_up(table, whole, 3, 0));
-    short_table(table, whole);
-    show::line(
-        b"controls of wheel 4",
-        vehicle::controls::set_controls(table, whole, 4, 0.0, 0.0, identity()),
-    );
-    show::line(
-        b"brake -1",
-        vehicle::controls::set_controls(table, whole, 0, 0.0, -1.0, identity()),
-    );
-    show::line(b"drive not aimed", go(table, whole, on_the_ground()).number);
-    show::line(
-        b"aim with a NaN",
-        drive::aim::aim(table, whole, chassis(v(0.0 / 0.0, 0.0, 0.0))).number,
-    );
-    show::line(
-        b"aim",
-        drive::aim::aim(table, whole, chassis(v(0.0, 0.0, 0.0))).number,
-    );
-    show::line(
-        b"read not driven",
-        vehicle::read::read_wheel(&table[..], &whole[..], 0).number,
-    );
-    bad_frames(table, whole);
-    stored_too_large(table, whole);
-    too_many_wheels();
-    show::line(
-        b"demand above 2^40",
-        step_of(1048576.0, 1.0, 0.00000095367431640625).number,
-    );
-    show::line(
-        b"velocity above 2^40",
-        step_of(1.0, 1048576.0, 0.00000095367431640625).number,
-    );
-}
-
-fn short_table(table: &mut [f32], whole: &mut [u32]) {
     let n = table.len();
     if n == SIZE {
         show::line(
@@ -58,8 +22,45 @@ fn short_table(table: &mut [f32], whole: &mut [u32]) {
     }
 }
 
-// Three answers for four wheels, and 65 bodies.
-fn bad_frames(table: &mut [f32], whole: &mut [u32]) {
+// Refusals 4 and 10.
+pub fn controls(table: &mut [f32], whole: &mut [u32]) {
+    show::line(
+        b"controls of wheel 4",
+        vehicle::controls::set_controls(table, whole, 4, 0.0, 0.0, identity()),
+    );
+    show::line(
+        b"brake -1",
+        vehicle::controls::set_controls(table, whole, 0, 0.0, -1.0, identity()),
+    );
+}
+
+// Refusal 5, of a drive.
+pub fn not_aimed(table: &mut [f32], whole: &mut [u32]) {
+    show::line(b"drive not aimed", go(table, whole, on_the_ground()).number);
+}
+
+// Refusal 2, of a number handed in: an aim with a NaN. Then one that is accepted.
+pub fn aims(table: &mut [f32], whole: &mut [u32]) {
+    show::line(
+        b"aim with a NaN",
+        drive::aim::aim(table, whole, chassis(v(0.0 / 0.0, 0.0, 0.0))).number,
+    );
+    show::line(
+        b"aim",
+        drive::aim::aim(table, whole, chassis(v(0.0, 0.0, 0.0))).number,
+    );
+}
+
+// Refusal 5, of a read.
+pub fn not_driven(table: &[f32], whole: &[u32]) {
+    show::line(
+        b"read not driven",
+        vehicle::read::read_wheel(table, whole, 0).number,
+    );
+}
+
+// Refusal 6: three answers for four wheels, and 65 bodies.
+pub fn bad_frames(table: &mut [f32], whole: &mut [u32]) {
     let bodies = [0.0; 1040];
     let dynamic = [false; 65];
     show::line(
@@ -80,66 +81,65 @@ fn bad_frames(table: &mut [f32], whole: &mut [u32]) {
     );
 }
 
-// A number of the first row above 2^40: the table is not ours any more.
-fn stored_too_large(table: &mut [f32], whole: &mut [u32]) {
+// A number of the first row above 2^40.
+fn spoil(table: &mut [f32]) {
     let n = table.len();
     if KEPT < n {
         table[KEPT] = 2199023255552.0;
     }
+}
+
+// Refusal 2, of a stored number: the table is not ours any more.
+pub fn stored_too_large(table: &mut [f32], whole: &mut [u32]) {
+    spoil(table);
     show::line(
         b"stored above 2^40",
         vehicle::controls::set_controls(table, whole, 0, 0.0, 0.0, identity()),
     );
 }
 
-fn too_many_wheels() {
+fn add(table: &mut [f32], whole: &mut [u32], radius: f32) -> u32 {
+    vehicle::add::add_wheel(
+        table,
+        whole,
+        v(0.0, 0.0, 0.0),
+        v(0.0, -1.0, 0.0),
+        v(0.0, 0.0, 1.0),
+        1.0,
+        radius,
+        tuning(1.0),
+    )
+}
+
+fn add_four(table: &mut [f32], whole: &mut [u32]) {
+    add(table, whole, 1.0);
+    add(table, whole, 1.0);
+    add(table, whole, 1.0);
+    add(table, whole, 1.0);
+}
+
+// Refusal 3, which comes before 10.
+pub fn wheels() {
     let mut table = [0.0; SIZE];
     let mut whole = [0u32; 4];
     vehicle::set_up::set_up(&mut table, &mut whole, 1, 0);
-    let mut i = 0;
-    while i < 16 {
-        vehicle::add::add_wheel(
-            &mut table,
-            &mut whole,
-            v(0.0, 0.0, 0.0),
-            v(0.0, -1.0, 0.0),
-            v(0.0, 0.0, 1.0),
-            1.0,
-            1.0,
-            tuning(1.0),
-        );
-        i += 1;
-    }
-    show::line(
-        b"wheel 17",
-        vehicle::add::add_wheel(
-            &mut table,
-            &mut whole,
-            v(0.0, 0.0, 0.0),
-            v(0.0, -1.0, 0.0),
-            v(0.0, 0.0, 1.0),
-            1.0,
-            1.0,
-            tuning(1.0),
-        ),
-    );
-    show::line(
-        b"radius 0",
-        vehicle::add::add_wheel(
-            &mut table,
-            &mut whole,
-            v(0.0, 0.0, 0.0),
-            v(0.0, -1.0, 0.0),
-            v(0.0, 0.0, 1.0),
-            1.0,
-            0.0,
-            tuning(1.0),
-        ),
-    );
+    show::line(b"radius 0", add(&mut table, &mut whole, 0.0));
+    add_four(&mut table, &mut whole);
+    add_four(&mut table, &mut whole);
+    add_four(&mut table, &mut whole);
+    add_four(&mut table, &mut whole);
+    show::line(b"wheel 17", add(&mut table, &mut whole, 1.0));
+    show::line(b"wheel 17 with radius 0", add(&mut table, &mut whole, 0.0));
 }
 
-// One wheel at full side speed, with a side stiffness, an effective inverse mass and an inverse mass.
-fn step_of(side: f32, effective: f32, invmass: f32) -> drive::Driven {
+// Refusals 7 and 8.
+pub fn steps() {
+    show::line(b"demand above 2^40", step_of(1048576.0, 1.0).number);
+    show::line(b"velocity above 2^40", step_of(1.0, 1048576.0).number);
+}
+
+// One wheel at full side speed on a chassis of inverse mass 2^-20, with a side stiffness and an effective inverse mass.
+fn step_of(side: f32, effective: f32) -> drive::Driven {
     let mut table = [0.0; SIZE];
     let mut whole = [0u32; 4];
     vehicle::set_up::set_up(&mut table, &mut whole, 1, 0);
@@ -164,7 +164,7 @@ fn step_of(side: f32, effective: f32, invmass: f32) -> drive::Driven {
     );
     let mut c = chassis(v(0.0, 0.0, 1048576.0));
     let mut b = c.body;
-    b.invmass = invmass;
+    b.invmass = 0.00000095367431640625;
     c.body = b;
     c.effective = v(effective, effective, effective);
     drive::aim::aim(&mut table, &mut whole, c);

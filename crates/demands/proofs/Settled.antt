@@ -3,21 +3,20 @@ use Prim.Native.Nat.{ℕ}
 use mathlib.Core.Bool.{Bool, true, false}
 use mathlib.Core.List.{List}
 use mathlib.Core.Path.{_≡_, refl, sym, ap, _∙_}
-use borrow.Author.Tests.{eqb-true, eq-eqb, ne-eqb}
+use borrow.Author.Tests.{eqb-true}
 use lib.Dec.{eqb}
 use lib.Ieee.{Float}
 use Rattle.lists.specs.Pick.{pick}
 use Rattle.refusals.specs.After.{After, after, settled}
+use Rattle.refusals.proofs.Settles.{settled-refused as refused-of-number, settled-done as done-of-number}
 use Rattle.demands.specs.Same.{Same}
 
 module _ {R : Type 0} (number : ℕ) (refused : ℕ → R) (done : After R) (t : List Float) (m : List ℕ) where
   pub settled-refused : (number ≡ 0 → ⊥) → settled number refused done t m ≡ after (refused number) t m
-  unfolding settled pick
-  settled-refused h = rw (ne-eqb number 0 h)
+  settled-refused h = sym (refused-of-number number number refused (refused number) done t m refl h refl)
 
   pub settled-done : number ≡ 0 → settled number refused done t m ≡ done
-  unfolding settled pick
-  settled-done h = rw (eq-eqb number 0 h)
+  settled-done h = sym (done-of-number number number refused done done t m refl h refl)
 
   pub settled-number : (of : R → ℕ) → of (refused number) ≡ number → of (done .reply) ≡ 0 → of (settled number refused done t m .reply) ≡ number
   unfolding settled pick

@@ -1,10 +1,9 @@
 -- What a drive's refusals tell. In order: no test refuses with 0; what refusals 1, 5 and 6 tell where they were not given. Assumes nothing.
 use Prim.Native.Nat.{ℕ, _*_, _<_, _≤_}
-use mathlib.Core.Bool.{Bool, true, not}
+use mathlib.Core.Bool.{Bool, true}
 use mathlib.Core.List.{List, _++_}
 use mathlib.Core.Path.{_≡_, refl}
 use borrow.Author.Tests.{eqb-true, leb-true}
-use lib.Dec.{eqb}
 use lib.ListN.{length}
 use lib.Ieee.{Float, Format}
 use Rattle.lists.specs.Pick.{pick}

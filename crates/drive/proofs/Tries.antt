@@ -14,7 +14,7 @@ use Rattle.body.specs.declared.Chassis.{Chassis}
 use Rattle.table.specs.Layout as at
 use Rattle.table.specs.Bounds.{storedWithin}
 use Rattle.passes.specs.Frame.{Frame}
-use Rattle.passes.specs.Passes.{Work, work, pushedWork, storedWork, demandsAdmitted}
+use Rattle.passes.specs.Passes.{work, pushedWork, storedWork, demandsAdmitted}
 use Rattle.refusals.specs.Shape.{upOf}
 use Rattle.refusals.specs.After.{after, marked}
 use Rattle.refusals.proofs.Settles.{settled-refused, settled-done}

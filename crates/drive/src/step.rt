@@ -8,7 +8,7 @@ ghost use lib.Ieee.{binary32};
 ghost use Rattle.table.specs.Layout as at;
 ghost use Rattle.wheel.specs.Ray.{namedOf};
 ghost use Rattle.passes.specs.Frame.{frame, answerAt};
-ghost use Rattle.passes.specs.Passes.{Work, work, pushedWork, storedWork};
+ghost use Rattle.passes.specs.Passes.{work, pushedWork, storedWork};
 ghost use Rattle.drive.specs.Drive.{demandStep};
 
 // The step as far as the demands of all wheels: rules 3 to 7, and rule 8 before the rescale. Answers the chassis after the springs.

@@ -4,3 +4,4 @@ pub mod Parts
 pub mod Turns
 pub mod Every
 pub mod Refusals
+pub mod Filling

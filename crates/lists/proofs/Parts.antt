@@ -1,14 +1,14 @@
 -- Laws on `part` and `paste`, for rows of any length, and on a copy made element by element. In order: what a borrowed part holds and leaves; lengths;
--- what was put is there, and what lies before or after is as it was; the same for rows of n; one more element copied, and all of them. Assumes nothing.
+-- what was put is there, and what lies before or after is as it was; the same for rows of n; one more element copied, and all of them; one part after another, one as long as the list, and one of one element. Assumes nothing.
 use Prim.Native.Nat.{ℕ, zero, suc, _+_, _-_, _*_, _≤_, _<_}
-use mathlib.Core.List.{List, [], _∷_, _++_, append-nil}
+use mathlib.Core.List.{List, [], _∷_, _++_, append-nil, append-assoc}
 use mathlib.Core.Path.{_≡_, refl, sym, ap, _∙_}
 use native.Mathlib.Nat.{not-suc-le-zero, le-of-suc-le-suc, mul-le-mul-right, suc-mul, add-mul}
 use native.Mathlib.Decide.{decLt}
 use native.Mathlib.Numerals.{add-one}
 use native.Mathlib.Omega.{arith}
 use lib.ListN.{length, take, drop, getD, set, length-append, length-take, length-drop, drop-of-length-le}
-use lib.Seq.{take-at, drop-at, take-append-le, drop-append-le, drop-append-add, drop-drop, take-take, length-take-le, take-all, getD-take, getD-drop}
+use lib.Seq.{take-at, drop-at, take-append-le, drop-append-le, take-append-add, drop-append-add, take-append-seam, drop-append-seam, drop-drop, take-take, length-take-le, take-all, getD-take, getD-drop, set-split}
 use Rattle.lists.specs.Part.{part, paste}
 
 cut : (a k : ℕ) → (a + k) - a ≡ k
@@ -116,3 +116,25 @@ module _ {A : Type 0} where
   -- all elements copied
   pub copied-all : (i : ℕ) (s d : List A) → length s ≤ i → length d ≤ i → take i s ++ drop i d ≡ s
   copied-all i s d l k = rw (take-all i s l, drop-of-length-le d k) (append-nil s)
+
+  -- one part after another is both at once
+  pub paste-paste : (t : List A) (a : ℕ) (r s : List A) → a ≤ length t → paste (paste t a r) (a + length r) s ≡ paste t a (r ++ s)
+  unfolding paste
+  paste-paste t a r s h =
+      let e = length-take-le a t h in
+      let d = drop (length r) (drop a t) in
+      let front : take (a + length r) (take a t ++ (r ++ d)) ≡ take a t ++ r =
+      ap (λ (n : ℕ). take (n + length r) (take a t ++ (r ++ d))) (sym e) ∙ take-append-add (take a t) (r ++ d) (length r) ∙ ap (λ (l : List A). take a t ++ l) (take-append-seam r d) in
+      let back : drop (a + length r) (take a t ++ (r ++ d)) ≡ d =
+      ap (λ (n : ℕ). drop (n + length r) (take a t ++ (r ++ d))) (sym e) ∙ drop-append-add (take a t) (r ++ d) (length r) ∙ drop-append-seam r d in
+      rw (front, back, length-append r s, ← drop-drop (length s) (length r) (drop a t), append-assoc (take a t) r, append-assoc r s)
+
+  -- a part as long as the list is all of it
+  pub paste-all : (t r : List A) → length t ≤ length r → paste t 0 r ≡ r
+  unfolding paste
+  paste-all t r h = rw (drop-of-length-le t h) (append-nil r)
+
+  -- one element stored is a part of one
+  pub set-is-paste : (t : List A) (a : ℕ) (x : A) → a < length t → set t a x ≡ paste t a (x ∷ [])
+  unfolding paste
+  set-is-paste t a x h = rw (set-split t a x h, drop-drop 1 a t, add-one)

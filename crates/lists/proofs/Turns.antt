@@ -1,11 +1,13 @@
--- Laws on `iter`, `every` and `tally`. A loop `while i < n` has the invariant that what is left to do gives what the whole gives: `iter f (n - i) i now ≡ iter f n 0 start`. Assumes nothing.
+-- Laws on `iter`, `every`, `tally` and `listed`. A loop `while i < n` has the invariant that what is left to do gives what the whole gives: `iter f (n - i) i now ≡ iter f n 0 start`. Assumes nothing.
 use Prim.Native.Nat.{ℕ, zero, suc, _+_, _-_, _≤_, _<_}
 use mathlib.Core.Bool.{Bool, true, false}
-use mathlib.Core.Path.{_≡_, refl, sym, _∙_}
+use mathlib.Core.List.{List, [], _∷_}
+use mathlib.Core.Path.{_≡_, refl, sym, ap, _∙_}
 use native.Mathlib.Decide.{decLt}
 use native.Mathlib.Omega.{arith}
+use lib.ListN.{length}
 use Rattle.lists.specs.Pick.{pick}
-use Rattle.lists.specs.Counted.{iter, every, tally}
+use Rattle.lists.specs.Counted.{iter, every, tally, listed}
 
 module _ {S : Type 0} (f : ℕ → S → S) where
   -- one turn
@@ -113,3 +115,23 @@ module _ (p : ℕ → Bool) where
             rw s e)
       ]
       go false e r later = let z : _≡_ {A = ℕ} 0 1 = cc in absurd (omega arith)
+
+-- a list of values: how many, and those that are left once i are taken
+module _ {A : Type 0} (f : ℕ → A) where
+  pub length-listed : (k i : ℕ) → length (listed f k i) ≡ k
+  unfolding listed
+  length-listed zero i = refl
+  length-listed (suc k) i = ap suc (length-listed k (suc i))
+
+  pub listed-start : (n : ℕ) → listed f (n - 0) 0 ≡ listed f n 0
+  listed-start n =
+      let a : n - 0 ≡ n = omega arith in
+      rw a
+
+  pub listed-more : (n i : ℕ) → i < n → listed f (n - i) i ≡ f i ∷ listed f (n - (i + 1)) (i + 1)
+  unfolding listed
+  listed-more n i l = rw (left-suc n i l, next i)
+
+  pub listed-end : (n i : ℕ) → n ≤ i → listed f (n - i) i ≡ []
+  unfolding listed
+  listed-end n i l = rw (left-none n i l)

@@ -1,6 +1,7 @@
 -- Counted loops: k turns, numbered from i on. Definitions only.
 use Prim.Native.Nat.{ℕ, zero, suc}
 use mathlib.Core.Bool.{Bool, true, false}
+use mathlib.Core.List.{List, [], _∷_}
 use Rattle.lists.specs.Pick.{pick}
 
 -- each turn changes the state s
@@ -18,3 +19,9 @@ every p (suc k) i = pick (p i) (every p k (suc i)) false
 unfoldable pub tally : (ℕ → Bool) → ℕ → ℕ → ℕ
 tally p zero i = zero
 tally p (suc k) i = pick (p i) (suc (tally p k (suc i))) (tally p k (suc i))
+
+-- the values of a function at each number
+module _ {A : Type 0} (f : ℕ → A) where
+  unfoldable pub listed : ℕ → ℕ → List A
+  listed zero i = []
+  listed (suc k) i = f i ∷ listed k (suc i)

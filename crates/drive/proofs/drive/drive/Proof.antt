@@ -1,6 +1,6 @@
 -- `drive::drive::drive` meets its contract: refused early, refused by the step, or done. Assumes nothing.
 use native.Mathlib.Omega.{arith}
-use mathlib.Core.Path.{_≡_, sym, _∙_}
+use mathlib.Core.Path.{sym, _∙_}
 use borrow.Author.Needs.{needs}
 use Rattle.drive.proofs.Refused.{Fits, early-says}
 use Rattle.drive.proofs.Tries.{drive-accepted, drive-refused-late, drive-refused}

@@ -1,6 +1,6 @@
 -- `drive::drive::refuse_drive` meets its contract: one list of tests after another. Assumes nothing.
 use native.Mathlib.Omega.{arith}
-use mathlib.Core.Path.{_≡_, sym, _∙_}
+use mathlib.Core.Path.{sym, _∙_}
 use Rattle.lists.proofs.Refusals.{append-refused-by, append-passed}
 use Rattle.drive.specs.Drive.{earlyTests}
 use Rattle.drive.proofs.Refused.{frame-numbered, handed-numbered, frame-says}

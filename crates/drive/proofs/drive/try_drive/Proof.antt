@@ -1,6 +1,6 @@
 -- `drive::drive::try_drive` meets its contract: the step on a copy, and each return as the definition chooses there. Assumes nothing.
 use borrow.Author.Needs.{needs}
-use mathlib.Core.Path.{_≡_, sym, ap, _∙_}
+use mathlib.Core.Path.{sym, ap, _∙_}
 use lib.ListN.{length}
 use Rattle.drive.proofs.Tries.{tried-7, tried-8, tried-done}
 use Rattle.drive.proofs.drive.try_drive.Statement.{statement}

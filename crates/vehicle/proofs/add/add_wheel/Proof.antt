@@ -1,6 +1,6 @@
 -- `vehicle::add::add_wheel` meets its contract: it is refused with nothing changed, or leaves one wheel more and the mark new. Assumes nothing.
 use Prim.Native.Nat.{ℕ, _<_}
-use mathlib.Core.Path.{_≡_, refl, sym, _∙_}
+use mathlib.Core.Path.{refl, sym, _∙_}
 use native.Mathlib.Omega.{arith}
 use borrow.Author.Needs.{needs}
 use lib.ListN.{length}

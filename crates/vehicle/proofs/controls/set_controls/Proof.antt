@@ -1,5 +1,5 @@
 -- `vehicle::controls::set_controls` meets its contract: it is refused with nothing changed, or leaves the wheel with its controls and no aimed mark. Assumes nothing.
-use mathlib.Core.Path.{_≡_, refl, sym, _∙_}
+use mathlib.Core.Path.{refl, sym, _∙_}
 use native.Mathlib.Omega.{arith}
 use borrow.Author.Needs.{needs}
 use borrow.Author.Tests.{eq-eqb, ne-eqb}

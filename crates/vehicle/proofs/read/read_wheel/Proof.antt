@@ -1,5 +1,5 @@
 -- `vehicle::read::read_wheel` meets its contract: it is refused with nothing changed, or answers the wheel's reading. Assumes nothing.
-use mathlib.Core.Path.{_≡_, sym, ap, _∙_}
+use mathlib.Core.Path.{sym, ap, _∙_}
 use native.Mathlib.Omega.{arith}
 use Rattle.refusals.specs.After.{after}
 use Rattle.refusals.proofs.Settles.{settled-refused, settled-done}

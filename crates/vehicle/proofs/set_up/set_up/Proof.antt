@@ -1,11 +1,13 @@
 -- `vehicle::set_up::set_up` meets its contract: it is refused with nothing changed, or leaves a vehicle with no wheels. Assumes nothing.
 use Prim.Native.Nat.{ℕ, _<_}
-use mathlib.Core.Path.{_≡_, refl, sym, _∙_}
+use mathlib.Core.Path.{refl, sym, ap, _∙_}
 use native.Mathlib.Omega.{arith}
 use borrow.Author.Needs.{needs}
-use lib.ListN.{length}
+use lib.ListN.{length, replicate}
 use lib.Ieee.{ofBits}
+use Rattle.real.specs.Number.{zero}
 use Rattle.table.specs.Layout as at
+use Rattle.refusals.specs.After.{after}
 use Rattle.refusals.proofs.Says.{Sizes}
 use Rattle.refusals.proofs.Settles.{settled-refused, settled-done}
 use Rattle.vehicle.specs.SetUp.{setUp}
@@ -28,7 +30,7 @@ copy-requires : tie.Need-copy-requires
 copy-requires c κs = let s = sizes (c .before .before) in omega arith
 
 slice-write-whole : tie.Need-slice-write-whole
-slice-write-whole c = let l = place (c .before .before .before .before .before) at.COUNT (omega arith) in search needs
+slice-write-whole c = let s = sizes (c .before .before .before .before .before) in omega arith
 
 slice-write-whole-2 : tie.Need-slice-write-whole-2
 slice-write-whole-2 c = let l = place (c .before .before .before .before .before) at.MARK (omega arith) in search needs
@@ -42,8 +44,9 @@ slice-write-whole-4 c = let l = place (c .before .before .before .before .before
 returns-2 : tie.Need-returns-2
 unfolding setUp ofBits
 returns-2 c =
+    let a = c .before .before .before .before .before .before .before .before .before .before .before .args in
     settled-done _ _ _ _ _ _ _ (c .before .before .before .before .before .before .refuse-set-up .ensures) (c .before .before .before .before .before .if1 .left)
-    (rw (c .before .before .copy .ensures, whole-set-up _ _ _ (sizes (c .before .before .before .before .before) .four)))
+    (rw (c .before .before .copy .ensures) (ap (after 0 (replicate at.SIZE zero)) (whole-set-up (a .whole .now) (a .up) (a .forward) (sizes (c .before .before .before .before .before) .four))))
 
 pub set-up-spec : {M : Type 1} → statement M
 set-up-spec =

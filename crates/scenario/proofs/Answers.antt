@@ -1,0 +1,43 @@
+-- Laws on the answers of a drive. In order: how many words one takes; how many answers; the answers from one on, and none. Assumes nothing.
+use Prim.Native.Nat.{ℕ, zero, suc, _+_, _-_, _≤_, _<_}
+use mathlib.Core.Bool.{Bool, true, false}
+use mathlib.Core.List.{List, [], _∷_}
+use mathlib.Core.Path.{_≡_, refl, ap}
+use native.Mathlib.Omega.{arith}
+use lib.Dec.{eqb}
+use lib.ListN.{length, getD}
+use Rattle.lists.specs.Pick.{pick}
+use Rattle.scenario.specs.Layout as at
+use Rattle.scenario.specs.Decode.{numberFrom}
+use Rattle.scenario.specs.Drive.{answerFrom, answerWords, answersFrom}
+
+pub answerWords-le : (kind : ℕ) → answerWords kind ≤ at.HIT-UP-WORDS
+unfolding answerWords pick
+answerWords-le kind = go (eqb kind at.HIT) (eqb kind at.HIT-UP)
+  where
+    go : (hit up : Bool) → pick hit at.HIT-WORDS (pick up at.HIT-UP-WORDS 1) ≤ at.HIT-UP-WORDS
+    go true up = omega arith
+    go false true = omega arith
+    go false false = omega arith
+
+pub length-answers : (l : List ℕ) (a n : ℕ) → length (answersFrom l a n) ≡ n
+unfolding answersFrom
+length-answers l a zero = refl
+length-answers l a (suc n) = ap suc (length-answers l (a + answerWords (numberFrom l a)) n)
+
+pub answers-more : (l : List ℕ) (a n i : ℕ) → i < n → answersFrom l a (n - i) ≡ answerFrom l a ∷ answersFrom l (a + answerWords (getD l a 0)) (n - (i + 1))
+unfolding answersFrom numberFrom
+answers-more l a n i h =
+    let k : n - i ≡ suc (n - (i + 1)) = omega arith in
+    rw k
+
+pub answers-end : (l : List ℕ) (a n i : ℕ) → n ≤ i → answersFrom l a (n - i) ≡ []
+unfolding answersFrom
+answers-end l a n i h =
+    let k : n - i ≡ 0 = omega arith in
+    rw k
+
+pub answers-start : (l : List ℕ) (a n : ℕ) → answersFrom l a (n - 0) ≡ answersFrom l a n
+answers-start l a n =
+    let k : n - 0 ≡ n = omega arith in
+    rw k

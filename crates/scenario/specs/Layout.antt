@@ -1,0 +1,144 @@
+-- Where each field of a scenario code stands among its words: the field order of docs/STREAM.md. Word 0 is the code. Each place is a named constant, counted from the one before it. Definitions only.
+use Prim.Native.Nat.{ℕ, _+_, _*_}
+use Rattle.table.specs.Layout as table
+
+-- ---- the first field
+abbrev pub FIRST : ℕ
+FIRST = 1
+
+-- ---- an add
+abbrev pub CONNECTION : ℕ
+CONNECTION = FIRST
+
+abbrev pub DIRECTION : ℕ
+DIRECTION = CONNECTION + 3
+
+abbrev pub AXLE : ℕ
+AXLE = DIRECTION + 3
+
+abbrev pub REST : ℕ
+REST = AXLE + 3
+
+abbrev pub RADIUS : ℕ
+RADIUS = REST + 1
+
+abbrev pub STIFFNESS : ℕ
+STIFFNESS = RADIUS + 1
+
+abbrev pub COMPRESSION : ℕ
+COMPRESSION = STIFFNESS + 1
+
+abbrev pub DAMPING : ℕ
+DAMPING = COMPRESSION + 1
+
+abbrev pub TRAVEL : ℕ
+TRAVEL = DAMPING + 1
+
+abbrev pub SIDE : ℕ
+SIDE = TRAVEL + 1
+
+abbrev pub SLIP : ℕ
+SLIP = SIDE + 1
+
+abbrev pub MOST : ℕ
+MOST = SLIP + 1
+
+-- ---- controls, and a read, which has the wheel's number alone
+abbrev pub WHEEL : ℕ
+WHEEL = FIRST
+
+abbrev pub ENGINE : ℕ
+ENGINE = WHEEL + 1
+
+abbrev pub BRAKE : ℕ
+BRAKE = ENGINE + 1
+
+abbrev pub STEERING : ℕ
+STEERING = BRAKE + 1
+
+-- ---- an aim: the chassis, in the order in which the table keeps it
+abbrev pub TRANSLATION : ℕ
+TRANSLATION = FIRST + table.TRANSLATION
+
+abbrev pub ORIENTATION : ℕ
+ORIENTATION = FIRST + table.ORIENTATION
+
+abbrev pub MASS-CENTRE : ℕ
+MASS-CENTRE = FIRST + table.MASS-CENTRE
+
+abbrev pub LINVEL : ℕ
+LINVEL = FIRST + table.LINVEL
+
+abbrev pub ANGVEL : ℕ
+ANGVEL = FIRST + table.ANGVEL
+
+abbrev pub INVMASS : ℕ
+INVMASS = FIRST + table.INVMASS
+
+abbrev pub EFFECTIVE : ℕ
+EFFECTIVE = FIRST + table.EFFECTIVE
+
+abbrev pub INERTIA : ℕ
+INERTIA = FIRST + table.INERTIA
+
+-- ---- a drive: the step, the number of bodies, and the bodies, each a lent body's numbers and its flag
+abbrev pub STEP : ℕ
+STEP = FIRST
+
+abbrev pub BODY-COUNT : ℕ
+BODY-COUNT = STEP + 1
+
+abbrev pub BODIES : ℕ
+BODIES = BODY-COUNT + 1
+
+abbrev pub FLAG : ℕ
+FLAG = table.BODY
+
+abbrev pub BODY-WORDS : ℕ
+BODY-WORDS = FLAG + 1
+
+-- the flag of a dynamic body
+abbrev pub DYNAMIC : ℕ
+DYNAMIC = 1
+
+-- ---- the kinds of an answer that have fields
+abbrev pub HIT : ℕ
+HIT = 1
+
+abbrev pub HIT-UP : ℕ
+HIT-UP = 2
+
+-- ---- an answer: its kind, and where its fields stand from there. The body's number comes last, and the next answer after it
+abbrev pub TIME : ℕ
+TIME = 1
+
+abbrev pub NORMAL : ℕ
+NORMAL = TIME + 1
+
+abbrev pub HIT-BODY : ℕ
+HIT-BODY = NORMAL + 3
+
+abbrev pub HIT-WORDS : ℕ
+HIT-WORDS = HIT-BODY + 1
+
+abbrev pub UPWARD : ℕ
+UPWARD = NORMAL + 3
+
+abbrev pub HIT-UP-BODY : ℕ
+HIT-UP-BODY = UPWARD + 3
+
+abbrev pub HIT-UP-WORDS : ℕ
+HIT-UP-WORDS = HIT-UP-BODY + 1
+
+-- ---- the most bodies and answers, and the words of the longest code: every body, and every answer with its upward normal
+abbrev pub MOST-BODIES : ℕ
+MOST-BODIES = table.BODIES
+
+abbrev pub MOST-ANSWERS : ℕ
+MOST-ANSWERS = table.WHEELS
+
+abbrev pub LAST-ANSWERS : ℕ
+LAST-ANSWERS = BODIES + MOST-BODIES * BODY-WORDS + 1
+
+abbrev pub CODE-WORDS : ℕ
+CODE-WORDS = LAST-ANSWERS + MOST-ANSWERS * HIT-UP-WORDS

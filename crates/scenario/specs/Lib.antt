@@ -1,0 +1,4 @@
+pub mod Layout
+pub mod Decode
+pub mod Drive
+pub mod Results

@@ -1,0 +1,133 @@
+// The fields of a scenario code, read from its words.
+use super::bits;
+use super::layout::*;
+use body::Body;
+use body::Chassis;
+use vector::Inertia;
+use vector::Pose;
+use vector::Rotation;
+use vector::Vector;
+use wheel::Controls;
+use wheel::Settings;
+ghost use mathlib.Core.Path.{_≡_};
+ghost use Prim.Native.Nat.{_+_, _<_};
+ghost use lib.ListN.{length};
+ghost use Rattle.scenario.specs.Layout as at;
+ghost use Rattle.scenario.specs.Decode.{floatFrom, vectorFrom, rotationFrom, inertiaFrom, settingsFrom, wheelFrom, controlsFrom, chassisFrom};
+
+// The float that stands at a.
+pub fn float_from(words: &[u32], a: usize) -> f32
+    requires { ⌜ a < length (now words) ⌝ }
+    ensures { λ r. ⌜ r ≡ floatFrom (now (words .entry)) a ⌝ }
+{
+    let bits = words[a];
+    bits::float_of(bits)
+}
+
+pub fn vector_from(words: &[u32], a: usize) -> Vector
+    requires { ⌜ a + 2 < length (now words) ⌝ }
+    ensures { λ r. ⌜ r ≡ vectorFrom (now (words .entry)) a ⌝ }
+{
+    let x = float_from(words, a);
+    let y = float_from(words, a + 1);
+    let z = float_from(words, a + 2);
+    Vector { x, y, z }
+}
+
+pub fn rotation_from(words: &[u32], a: usize) -> Rotation
+    requires { ⌜ a + 3 < length (now words) ⌝ }
+    ensures { λ r. ⌜ r ≡ rotationFrom (now (words .entry)) a ⌝ }
+{
+    let b = vector_from(words, a);
+    let w = float_from(words, a + 3);
+    Rotation { b, w }
+}
+
+pub fn inertia_from(words: &[u32], a: usize) -> Inertia
+    requires { ⌜ a + 5 < length (now words) ⌝ }
+    ensures { λ r. ⌜ r ≡ inertiaFrom (now (words .entry)) a ⌝ }
+{
+    let xx = float_from(words, a);
+    let xy = float_from(words, a + 1);
+    let xz = float_from(words, a + 2);
+    let yy = float_from(words, a + 3);
+    let yz = float_from(words, a + 4);
+    let zz = float_from(words, a + 5);
+    Inertia {
+        xx,
+        xy,
+        xz,
+        yy,
+        yz,
+        zz,
+    }
+}
+
+// The settings of an add.
+pub fn settings_from(words: &[u32]) -> Settings
+    requires { ⌜ length (now words) ≡ at.CODE-WORDS ⌝ }
+    ensures { λ r. ⌜ r ≡ settingsFrom (now (words .entry)) ⌝ }
+{
+    Settings {
+        connection: vector_from(words, CONNECTION),
+        direction: vector_from(words, DIRECTION),
+        axle: vector_from(words, AXLE),
+        rest: float_from(words, REST),
+        travel: float_from(words, TRAVEL),
+        radius: float_from(words, RADIUS),
+        stiffness: float_from(words, STIFFNESS),
+        compression: float_from(words, COMPRESSION),
+        relaxation: float_from(words, DAMPING),
+        slip: float_from(words, SLIP),
+        side: float_from(words, SIDE),
+        most: float_from(words, MOST),
+    }
+}
+
+// The wheel that controls or a read names.
+pub fn wheel_from(words: &[u32]) -> u32
+    requires { ⌜ length (now words) ≡ at.CODE-WORDS ⌝ }
+    ensures { λ r. ⌜ r ≡ wheelFrom (now (words .entry)) ⌝ }
+{
+    words[WHEEL]
+}
+
+pub fn controls_from(words: &[u32]) -> Controls
+    requires { ⌜ length (now words) ≡ at.CODE-WORDS ⌝ }
+    ensures { λ r. ⌜ r ≡ controlsFrom (now (words .entry)) ⌝ }
+{
+    Controls {
+        steering: rotation_from(words, STEERING),
+        engine: float_from(words, ENGINE),
+        brake: float_from(words, BRAKE),
+    }
+}
+
+// The chassis of an aim.
+pub fn chassis_from(words: &[u32]) -> Chassis
+    requires { ⌜ length (now words) ≡ at.CODE-WORDS ⌝ }
+    ensures { λ r. ⌜ r ≡ chassisFrom (now (words .entry)) ⌝ }
+{
+    let translation = vector_from(words, TRANSLATION);
+    let rotation = rotation_from(words, ORIENTATION);
+    let centre = vector_from(words, MASS_CENTRE);
+    let linvel = vector_from(words, LINVEL);
+    let angvel = vector_from(words, ANGVEL);
+    let invmass = float_from(words, INVMASS);
+    let inertia = inertia_from(words, INERTIA);
+    let effective = vector_from(words, EFFECTIVE);
+    Chassis {
+        pose: Pose {
+            translation,
+            rotation,
+        },
+        body: Body {
+            centre,
+            linvel,
+            angvel,
+            invmass,
+            inertia,
+        },
+        effective,
+    }
+}

@@ -1,0 +1,6 @@
+// A scenario code as words: its fields as the arguments of the calls, and results as words.
+pub mod layout; // where each field stands
+pub mod bits; // a float as its bit pattern
+pub mod decode; // the fields of add, controls, aim and read
+pub mod drive; // the lists of a drive
+pub mod results; // results as words

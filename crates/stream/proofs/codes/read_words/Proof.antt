@@ -1,0 +1,133 @@
+-- `stream::codes::read_words` meets its contract: the words that are left give what all give. Assumes nothing.
+use borrow.Author.Needs.{needs}
+use native.Mathlib.Omega.{arith}
+use Prim.Native.Nat.{_-_}
+use mathlib.Core.Path.{_≡_, sym, _∙_}
+use lib.ListN.{drop, length-set}
+use Rattle.stream.specs.declared.Number.{Number}
+use Rattle.stream.specs.Layout.{CODE-WORDS}
+use Rattle.stream.specs.Number.{readNumber}
+use Rattle.stream.proofs.Words.{Words, none-read, has-room, number-at, taken-within, ends-short, ends-bad, ends-whole, ends-wrong, one-more}
+use Rattle.stream.proofs.codes.read_words.Statement.{statement}
+use Rattle.stream.proofs.codes.read_words.Tie as tie
+
+abbrev Inv-loop : tie.InvT-loop
+Inv-loop bytes words₀ place₀ n₀ taken₀ words place n taken = Words bytes words₀ words place n taken
+
+abbrev μ-loop : tie.MeasureT-loop
+μ-loop bytes words₀ place₀ n₀ taken₀ words place n taken = CODE-WORDS - n
+
+-- the number that was read is the one at the loop's place
+numbered : (c : tie.After-read-number Inv-loop μ-loop) (r : Number) → c .read-number .result ≡ r
+    → readNumber (drop (c .before .before .loop .taken) (c .before .before .before .before .before .before .args .bytes .now)) ≡ r
+numbered c r e = number-at (c .before .before .loop .inv) r (sym (c .read-number .ensures) ∙ e)
+
+loop-holds : tie.Need-loop-holds Inv-loop μ-loop
+loop-holds c = none-read _ _ _ (c .start .ensures) (c .before .before .before .pre)
+
+sub-read-number : tie.Need-sub-read-number Inv-loop μ-loop
+sub-read-number c = c .loop .inv .within
+
+part-read-number-start : tie.Need-part-read-number-start Inv-loop μ-loop
+part-read-number-start c = search needs
+
+part-read-number-end : tie.Need-part-read-number-end Inv-loop μ-loop
+part-read-number-end c = search needs
+
+mul-words : tie.Need-mul-words Inv-loop μ-loop
+mul-words c = omega (arith, has-room (c .before .before .before .before .before .loop .inv))
+
+slice-write-words : tie.Need-slice-write-words Inv-loop μ-loop
+slice-write-words c = omega (arith, has-room (c .before .before .before .before .before .loop .inv))
+
+add-n : tie.Need-add-n Inv-loop μ-loop
+add-n c = omega (arith, has-room (c .before .before .before .before .before .loop .inv))
+
+add-taken : tie.Need-add-taken Inv-loop μ-loop
+add-taken c =
+    let at = c .before .before .before in
+    omega (arith, taken-within (at .before .before .loop .inv) _ _ (numbered at _ (c .before .number .given .1)))
+
+loop-less : tie.Need-loop-less Inv-loop μ-loop
+loop-less c = omega (arith, has-room (c .before .before .before .before .before .before .before .before .before .loop .inv))
+
+loop-again : tie.Need-loop-again Inv-loop μ-loop
+loop-again c =
+    let word = c .before .before .before .before .before in
+    let at = word .before .before in
+    one-more (at .before .before .loop .inv) _ _ (numbered at _ (word .number .given .1)) _ (c .before .before .before .next .ensures)
+    (sym (c .before .before .verdict .ensures) ∙ c .enum-told .given .1)
+
+shown-requires : tie.Need-shown-requires Inv-loop μ-loop
+shown-requires c κs = simp length-set (c .before .before .before .before .before .before .before .before .before .before .loop .inv .sized)
+
+shown-requires-2 : tie.Need-shown-requires-2 Inv-loop μ-loop
+shown-requires-2 c κs = c .before .before .before .before .before .loop .inv .sized
+
+shown-requires-3 : tie.Need-shown-requires-3 Inv-loop μ-loop
+shown-requires-3 c κs = c .before .before .before .before .before .loop .inv .sized
+
+returns : tie.Need-returns Inv-loop μ-loop
+returns c =
+    let word = c .before .before .before .before .before in
+    let at = word .before .before in
+    ends-whole (at .before .before .loop .inv) _ _ (numbered at _ (word .number .given .1)) _ (c .before .before .before .next .ensures)
+    (sym (c .before .before .verdict .ensures) ∙ c .enum-told2 .given .1)
+
+returns-2 : tie.Need-returns-2 Inv-loop μ-loop
+returns-2 c =
+    let told = c .before .before in
+    let word = told .before .before .before .before .before in
+    let at = word .before .before in
+    ends-wrong (at .before .before .loop .inv) _ _ (numbered at _ (word .number .given .1)) _ (told .before .before .before .next .ensures)
+    _ (sym (told .before .before .verdict .ensures) ∙ told .enum-told3 .given .1) (c .shown .ensures)
+
+returns-3 : tie.Need-returns-3 Inv-loop μ-loop
+returns-3 c =
+    let told = c .before .before in
+    let at = told .before .before in
+    ends-short (at .before .before .loop .inv) _ (numbered at _ (told .enum-told4 .given .1)) (c .shown2 .ensures)
+
+returns-4 : tie.Need-returns-4 Inv-loop μ-loop
+returns-4 c =
+    let told = c .before .before in
+    let at = told .before .before in
+    ends-bad (at .before .before .loop .inv) _ (numbered at _ (told .enum-told5 .given .1)) (c .shown3 .ensures)
+
+pub read-words-spec : {M : Type 1} → statement M
+read-words-spec =
+    tie.close
+    (tie.spec
+    Inv-loop
+    μ-loop
+    (λ c κs. tt)
+    loop-holds
+    sub-read-number
+    part-read-number-start
+    part-read-number-end
+    (λ c κs. tt)
+    (λ c. search needs)
+    mul-words
+    slice-write-words
+    add-n
+    add-taken
+    (λ c κs. tt)
+    (λ c κs. tt)
+    (λ c. search needs)
+    loop-less
+    loop-again
+    (λ c. search needs)
+    (λ c. search needs)
+    shown-requires
+    (λ c. search needs)
+    shown-requires-2
+    (λ c. search needs)
+    shown-requires-3
+    (λ c. simp length-set (omega arith))
+    returns
+    (λ c. simp length-set (omega arith))
+    returns-2
+    (λ c. search needs)
+    returns-3
+    (λ c. search needs)
+    returns-4)

@@ -1,0 +1,4 @@
+pub mod Layout
+pub mod Number
+pub mod Grammar
+pub mod Code

@@ -1,0 +1,56 @@
+// Document 01, "Scenario program": one code.
+use super::Code;
+use super::Number;
+use super::Verdict;
+use super::grammar;
+use super::layout::*;
+use super::numbers;
+ghost use mathlib.Core.Path.{_≡_};
+ghost use lib.ListN.{length, take};
+ghost use Rattle.stream.specs.Layout as layout;
+ghost use Rattle.stream.specs.Code as code;
+
+// The code that the first n words belong to, 0 where there are none.
+fn shown(words: &[u32], n: usize) -> u32
+    requires { ⌜ length (now words) ≡ layout.CODE-WORDS ⌝ }
+    ensures { λ r. ⌜ r ≡ code.shown (take n (now (words .entry))) ⌝ }
+{
+    if n > 0 { words[0] } else { 0 }
+}
+
+// What stands at the start of the bytes; its words go into the lent ones.
+fn read_words(bytes: &[u8], words: &mut [u32]) -> Code
+    requires { ⌜ length (now words) ≡ layout.CODE-WORDS ⌝ }
+    ensures { λ r. ⌜ code.Reads (now (bytes .entry)) (now (words .entry)) (now (words .exit)) r ⌝ }
+{
+    let mut place = grammar::start();
+    let mut n = 0usize;
+    let mut taken = 0usize;
+    let code = loop {
+        let number = numbers::read_number(&bytes[taken..]);
+        match number {
+            Number::Value(word, length) => {
+                words[n] = word;
+                n += 1usize;
+                taken += length;
+                place = grammar::next(place, word);
+                let verdict = grammar::verdict(place);
+                match verdict {
+                    Verdict::More => {}
+                    Verdict::Whole => break Code::Whole(n, taken),
+                    Verdict::Bad => break Code::Malformed(shown(words, n)),
+                }
+            }
+            Number::Short => break Code::Short(shown(words, n)),
+            Number::Bad => break Code::Malformed(shown(words, n)),
+        }
+    };
+    code
+}
+
+// The same, where the lent words are known to have room.
+pub fn read_code(bytes: &[u8], words: &mut [u32; CODE_WORDS]) -> Code
+    ensures { λ r. ⌜ code.Reads (now (bytes .entry)) (now (words .entry)) (now (words .exit)) r ⌝ }
+{
+    read_words(bytes, words)
+}
