@@ -2,3 +2,4 @@ pub mod Number
 pub mod Units
 pub mod Root
 pub mod Scalar
+pub mod Small

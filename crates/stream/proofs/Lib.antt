@@ -6,4 +6,3 @@ pub mod Words
 pub mod Readings
 pub mod RoundTrip
 pub mod Exact
-pub mod Marked

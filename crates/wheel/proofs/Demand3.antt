@@ -23,7 +23,7 @@ use Rattle.wheel.specs.Demand3.{precision, Grips, WithinBrake, Admitted,
 use Rattle.wheel.proofs.Ranges.{ranges}
 use Rattle.wheel.proofs.GripCircle.{small-of-admitted, grips}
 use Rattle.wheel.proofs.Brake.{skid-fits, skid-not-negative, rescaled-le, brake-signed}
-use Rattle.wheel.proofs.Marked.{three, four, five, six, seven, eight, twelve}
+use Rattle.real.specs.Small.{three, four, five, six, seven, eight, twelve}
 
 -- "If its demand does not pass the slide test, its two impulses are exactly the demand."
 pub not-sliding : (f : Format) (forward side limit : Float) → slides f forward side limit ≡ false

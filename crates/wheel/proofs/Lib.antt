@@ -1,4 +1,3 @@
-pub mod Marked
 pub mod Demand3
 pub mod Brake
 pub mod GripCircle
