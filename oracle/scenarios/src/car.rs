@@ -11,7 +11,7 @@ use crate::parts::turn;
 use crate::random::Random;
 use crate::script::{stream_of, Script};
 
-const GRAVITY: f32 = 9.81;
+pub(crate) const GRAVITY: f32 = 9.81;
 /// The frames of a chassis that moves faster than this no longer look like a car's.
 const TOO_FAST: f32 = 500.0;
 
@@ -357,7 +357,7 @@ fn strips(random: &mut Random, bodies: usize) -> Vec<Strip> {
 }
 
 /// The rotation a little later: a first-order turn, brought back to unit length.
-fn turned(rotation: Rotation, by: Vector) -> Rotation {
+pub(crate) fn turned(rotation: Rotation, by: Vector) -> Rotation {
     let b = Vector::new(rotation.x, rotation.y, rotation.z);
     let half = by * 0.5;
     let turned = b + half * rotation.w + half.cross(b);
@@ -367,7 +367,7 @@ fn turned(rotation: Rotation, by: Vector) -> Rotation {
 }
 
 /// Rotation × diagonal × its transpose, as six numbers.
-fn turned_inertia(rotation: Rotation, diagonal: Vector) -> [f32; 6] {
+pub(crate) fn turned_inertia(rotation: Rotation, diagonal: Vector) -> [f32; 6] {
     let column = |axis: Vector| rotation * axis;
     let x = column(Vector::new(1.0, 0.0, 0.0));
     let y = column(Vector::new(0.0, 1.0, 0.0));

@@ -8,6 +8,7 @@ mod bad;
 mod broken;
 mod car;
 mod edge;
+mod example;
 mod parts;
 mod random;
 mod rubbish;
@@ -17,6 +18,7 @@ mod wild;
 
 use random::Random;
 
+pub use example::example;
 pub use rubbish::{rubbish, Rubbish};
 
 /// What a scenario is like.

@@ -1,0 +1,144 @@
+//! The example of `examples/`: a small car on flat ground rolls, brakes and steers.
+//!
+//! As in `car`, the chassis is moved between the frames from the oracle's own answers.
+
+use vehicle::handed::{Chassis, Controls, Drive, Hit, NewWheel, RayAnswer};
+use vehicle::math::{Pose, Rotation, Vector};
+
+use crate::car::{turned, turned_inertia, GRAVITY};
+use crate::parts::turn;
+use crate::script::{stream_of, Script};
+
+const MASS: f32 = 1000.0;
+const DT: f32 = 1.0 / 24.0;
+const FRAMES: usize = 3;
+const REST: f32 = 0.3;
+const RADIUS: f32 = 0.35;
+const STIFFNESS: f32 = 25.0;
+const CONNECTION: f32 = -0.2;
+
+/// What the driver does for some frames.
+struct Driver {
+    /// Force of each rear wheel.
+    engine: f32,
+    brake: f32,
+    /// Tangent of half the angle that the front wheels are turned by.
+    steer: f32,
+}
+
+const DRIVERS: [Driver; 3] = [
+    Driver { engine: 800.0, brake: 0.0, steer: 0.0 },
+    Driver { engine: 0.0, brake: 400.0, steer: 0.0 },
+    Driver { engine: 0.0, brake: 0.0, steer: 0.15 },
+];
+
+/// The example's bytes.
+pub fn example() -> Vec<u8> {
+    let mut script = Script::new();
+    for x in [1.25, -1.25] {
+        for z in [0.75, -0.75] {
+            script.add(wheel(Vector::new(x, CONNECTION, z)));
+        }
+    }
+    let mut chassis = standing();
+    for driver in &DRIVERS {
+        for _ in 0..FRAMES {
+            chassis = frame(&mut script, driver, chassis);
+        }
+    }
+    read_too_early(&mut script, chassis);
+    stream_of(&script.finished())
+}
+
+/// A wheel read between aim and drive: refused.
+fn read_too_early(script: &mut Script, chassis: Chassis) {
+    script.aim(chassis);
+    script.read(0);
+}
+
+fn wheel(connection_point: Vector) -> NewWheel {
+    NewWheel {
+        connection_point,
+        direction: Vector::new(0.0, -1.0, 0.0),
+        axle: Vector::new(0.0, 0.0, 1.0),
+        rest_length: REST,
+        radius: RADIUS,
+        stiffness: STIFFNESS,
+        compression: 2.0,
+        damping: 2.5,
+        travel: 0.25,
+        side_stiffness: 1.0,
+        slip: 0.8,
+        max_force: 6000.0,
+    }
+}
+
+/// At rest on its springs, at 12 m/s along the forward axis.
+fn standing() -> Chassis {
+    let sag = GRAVITY / (4.0 * STIFFNESS);
+    let height = REST - sag + RADIUS - CONNECTION;
+    let inverse = 1.0 / MASS;
+    settled(Chassis {
+        pose: Pose {
+            rotation: Rotation::IDENTITY,
+            translation: Vector::new(0.0, height, 0.0),
+        },
+        center_of_mass: Vector::ZERO,
+        linear: Vector::new(12.0, 0.0, 0.0),
+        angular: Vector::ZERO,
+        inverse_mass: inverse,
+        effective_inverse_masses: Vector::new(inverse, inverse, inverse),
+        inverse_inertia: [0.0; 6],
+    })
+}
+
+/// What follows from the pose: centre of mass and inverse inertia in the world.
+fn settled(chassis: Chassis) -> Chassis {
+    let local = Vector::new(2.0 / MASS, 0.6 / MASS, 0.7 / MASS);
+    Chassis {
+        center_of_mass: chassis.pose.translation,
+        inverse_inertia: turned_inertia(chassis.pose.rotation, local),
+        ..chassis
+    }
+}
+
+/// Controls, aim, drive, and every wheel read; the chassis of the next frame.
+fn frame(script: &mut Script, driver: &Driver, chassis: Chassis) -> Chassis {
+    let up = chassis.pose.rotation * Vector::new(0.0, 1.0, 0.0);
+    for wheel in 0..4 {
+        let is_front = wheel < 2;
+        script.controls(
+            wheel,
+            Controls {
+                engine: if is_front { 0.0 } else { driver.engine },
+                brake: driver.brake,
+                steering: if is_front { turn(up, driver.steer) } else { Rotation::IDENTITY },
+            },
+        );
+    }
+    let answers = script.aim(chassis).rays.iter().map(|ray| ground(*ray)).collect();
+    let driven = script.drive(Drive { dt: DT, bodies: Vec::new(), answers });
+    script.read_all();
+    moved(chassis, driven.linear, driven.angular)
+}
+
+/// The flat ground at height 0.
+fn ground((source, ray): (Vector, Vector)) -> RayAnswer {
+    let time = source.y / -ray.y;
+    let normal = Vector::new(0.0, 1.0, 0.0);
+    (time <= 1.0).then_some(Hit { time, normal, upward_normal: None, body: None })
+}
+
+/// Gravity, then the new place of the chassis.
+fn moved(chassis: Chassis, linear: Vector, angular: Vector) -> Chassis {
+    let linear = linear - Vector::new(0.0, GRAVITY * DT, 0.0);
+    settled(Chassis {
+        pose: Pose {
+            rotation: turned(chassis.pose.rotation, angular * DT),
+            translation: chassis.pose.translation + linear * DT,
+        },
+        linear,
+        angular,
+        ..chassis
+    })
+}
