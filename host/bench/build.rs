@@ -1,0 +1,44 @@
+//! Puts the Rust source and the oracle's arithmetic into this crate, so that the compiler sees all of the source's side at once.
+//!
+//! | module | what it is |
+//! |---|---|
+//! | `as_sent` | the file in oracle/source, as sent |
+//! | `guarded` | a copy in which a wheel's transforms can be left as they are, as a drive leaves those of its aim: one line differs; `appended.rs` follows it |
+//! | `dynamics`, `geometry`, `math`, `utils` | the oracle's |
+
+use std::path::{Path, PathBuf};
+use std::{env, fs};
+
+const SOURCE: &str = "../../oracle/source/ray_cast_vehicle_controller.rs";
+const ARITHMETIC: &str = "../../oracle/vehicle/src";
+const APPENDED: &str = "appended.rs";
+const SENT: &str = "            self.update_wheel_transform(chassis, i);\n";
+const GUARDED: &str =
+    "            if crate::source::TRANSFORMS.get() { self.update_wheel_transform(chassis, i); }\n";
+
+fn main() {
+    let here =
+        PathBuf::from(env::var_os("CARGO_MANIFEST_DIR").expect("cargo sets CARGO_MANIFEST_DIR"));
+    let out = PathBuf::from(env::var_os("OUT_DIR").expect("cargo sets OUT_DIR"));
+    let text = read(SOURCE);
+    assert_eq!(text.matches(SENT).count(), 1, "this line must stand once in the source: {SENT}");
+    let guarded = out.join("guarded.rs");
+    fs::write(&guarded, text.replace(SENT, GUARDED) + &read(APPENDED))
+        .expect("OUT_DIR can be written");
+    let mut modules = module("as_sent", &here.join(SOURCE)) + &module("guarded", &guarded);
+    for name in ["dynamics", "geometry", "math", "utils"] {
+        let file = format!("{ARITHMETIC}/{name}.rs");
+        println!("cargo::rerun-if-changed={file}");
+        modules += &module(name, &here.join(file));
+    }
+    fs::write(out.join("modules.rs"), modules).expect("OUT_DIR can be written");
+}
+
+fn module(name: &str, file: &Path) -> String {
+    format!("#[path = {file:?}]\n#[allow(clippy::all, dead_code, unused_imports)]\nmod {name};\n")
+}
+
+fn read(path: &str) -> String {
+    println!("cargo::rerun-if-changed={path}");
+    fs::read_to_string(path).unwrap_or_else(|error| panic!("{path}: {error}"))
+}

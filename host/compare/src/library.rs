@@ -1,0 +1,110 @@
+//! The library's side: one code of a scenario as a call on two lent arrays.
+
+use oracle::handed::{Drive, Hit};
+use oracle::stream::Code;
+use oracle::table::Table;
+use vehicle_controller::ffi::{self, kind, len};
+
+/// A table as the library is lent it: count, mark, up and forward axis beside it.
+pub struct Lent {
+    pub table: Vec<f32>,
+    pub whole: [u32; len::WHOLE],
+}
+
+impl From<&Table> for Lent {
+    fn from(table: &Table) -> Self {
+        let Table { numbers, count, mark, up, forward } = table;
+        Lent { table: numbers.clone(), whole: [*count, *mark, *up, *forward] }
+    }
+}
+
+impl Lent {
+    /// Makes the call. Gives its number and, if it is accepted, its results; a refusal must leave them alone.
+    pub fn call(&mut self, code: &Code) -> Result<(u32, Vec<f32>), &'static str> {
+        let Lent { table, whole } = self;
+        let mut results = vec![UNTOUCHED; result_size(code)];
+        let number = match code {
+            Code::End => 0,
+            Code::Add(wheel) => ffi::add_wheel(table, whole, &wheel.numbers()),
+            Code::Controls(wheel, controls) => {
+                ffi::set_controls(table, whole, *wheel, &controls.numbers())
+            }
+            Code::Aim(chassis) => ffi::aim(table, whole, &chassis.numbers(), &mut results),
+            Code::Drive(drive) => {
+                let lists = Lists::of(drive);
+                let Lists { bodies, dynamic, kinds, named, rays } = &lists;
+                ffi::drive(
+                    table,
+                    whole,
+                    drive.dt,
+                    bodies,
+                    dynamic,
+                    kinds,
+                    named,
+                    rays,
+                    &mut results,
+                )
+            }
+            Code::Read(wheel) => ffi::read_wheel(table, whole, *wheel, &mut results),
+        };
+        if number == 0 {
+            return Ok((0, results));
+        }
+        let untouched = results.iter().all(|number| number.to_bits() == UNTOUCHED.to_bits());
+        if untouched {
+            Ok((number, Vec::new()))
+        } else {
+            Err("a refusal wrote to the results")
+        }
+    }
+}
+
+/// A number that no call gives.
+const UNTOUCHED: f32 = f32::from_bits(0x7fc1_2345);
+
+fn result_size(code: &Code) -> usize {
+    match code {
+        Code::Aim(_) => len::AIM,
+        Code::Drive(_) => len::DRIVE,
+        Code::Read(_) => len::READ,
+        _ => 0,
+    }
+}
+
+/// The lists of a drive, flat.
+struct Lists {
+    bodies: Vec<f32>,
+    dynamic: Vec<u32>,
+    kinds: Vec<u32>,
+    named: Vec<u32>,
+    rays: Vec<f32>,
+}
+
+impl Lists {
+    fn of(drive: &Drive) -> Self {
+        let kind = |hit: &Hit| if hit.upward_normal.is_some() { kind::HIT_UP } else { kind::HIT };
+        // The last number there is names no body of any list.
+        let named = |hit: &Hit| hit.body.map_or(0, |body| body.saturating_add(1));
+        Lists {
+            bodies: drive.bodies.iter().flat_map(|body| body.numbers()).collect(),
+            dynamic: drive.bodies.iter().map(|body| u32::from(body.dynamic)).collect(),
+            kinds: drive
+                .answers
+                .iter()
+                .map(|answer| answer.as_ref().map_or(kind::NOTHING, kind))
+                .collect(),
+            named: drive.answers.iter().map(|answer| answer.as_ref().map_or(0, named)).collect(),
+            rays: drive.answers.iter().flat_map(ray).collect(),
+        }
+    }
+}
+
+/// What an answer does not have is NaN here: the library must not look at it.
+fn ray(answer: &Option<Hit>) -> [f32; len::RAY] {
+    let Some(Hit { time, normal, upward_normal, .. }) = answer else {
+        return [f32::NAN; len::RAY];
+    };
+    let [x, y, z] = normal.parts();
+    let [u, v, w] = upward_normal.map_or([f32::NAN; 3], |upward| upward.parts());
+    [*time, x, y, z, u, v, w]
+}

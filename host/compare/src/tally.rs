@@ -1,0 +1,45 @@
+//! What the compared calls covered.
+
+use std::collections::BTreeMap;
+use std::fmt;
+
+use oracle::program::Line;
+use oracle::stream::Code;
+
+#[derive(Default)]
+pub struct Tally {
+    pub runs: u64,
+    /// How often each call was answered by each number.
+    answers: BTreeMap<(&'static str, u32), u64>,
+    airborne: u64,
+    gripping: u64,
+    sliding: u64,
+}
+
+impl Tally {
+    pub fn add(&mut self, code: &Code, line: &Line) {
+        *self.answers.entry((crate::name(code), line.answer)).or_default() += 1;
+        for grip in &line.grips {
+            let kind = match (grip.grounded, grip.slides()) {
+                (false, _) => &mut self.airborne,
+                (true, false) => &mut self.gripping,
+                (true, true) => &mut self.sliding,
+            };
+            *kind += 1;
+        }
+    }
+
+    pub fn calls(&self) -> u64 {
+        self.answers.values().sum()
+    }
+}
+
+impl fmt::Display for Tally {
+    fn fmt(&self, f: &mut fmt::Formatter<'_>) -> fmt::Result {
+        for ((call, number), times) in &self.answers {
+            writeln!(f, "{call:>9} {number:>2}: {times}")?;
+        }
+        let Tally { airborne, gripping, sliding, .. } = self;
+        writeln!(f, "wheels of accepted drives: {sliding} sliding, {gripping} gripping, {airborne} airborne")
+    }
+}

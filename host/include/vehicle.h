@@ -1,0 +1,138 @@
+/* The vehicle controller: six calls on a table that the host lends.
+ *
+ * Link with libexports.a (x86-64), which `rt staticlib exports` writes to target/staticlib. It needs memcpy and memset, and nothing else.
+ *
+ * The host owns two arrays, a table of VEHICLE_TABLE_LEN floats and VEHICLE_WHOLE_LEN whole numbers, and lends both to every call. Nothing
+ * is kept anywhere else, so a copy of the two arrays is a copy of the vehicle, and vehicles may be driven on as many threads as there are.
+ *
+ * The order of calls: vehicle_set_up once; vehicle_add_wheel for each wheel; then for each frame vehicle_set_controls as needed,
+ * vehicle_aim, cast the rays it gives, vehicle_drive with what they met, vehicle_read_wheel.
+ *
+ * Each call answers 0, accepted, or a refusal: one of the numbers VEHICLE_... below. A refusal changes nothing that was lent: not the table,
+ * not the whole numbers, not the results. Each call takes every float, NaN and the infinities included, and every content of the two arrays.
+ *
+ * What the compiler cannot see, and the host owes: a pointer is not null, points to as many numbers as the length after it says, and is not
+ * null for a length of 0 either; what a call may write (table, whole, results) overlaps nothing else that the same call is handed.
+ */
+#ifndef VEHICLE_H
+#define VEHICLE_H
+
+#include <stddef.h>
+#include <stdint.h>
+
+#ifdef __cplusplus
+extern "C" {
+#endif
+
+/* ---- Sizes, in numbers. The functions vehicle_..._len, at the end, give the library's own. ---- */
+
+#define VEHICLE_TABLE_LEN 842   /* the table */
+#define VEHICLE_WHOLE_LEN 4     /* the whole numbers beside it */
+#define VEHICLE_SETTINGS_LEN 18 /* what vehicle_add_wheel takes */
+#define VEHICLE_CONTROLS_LEN 6  /* what vehicle_set_controls takes */
+#define VEHICLE_CHASSIS_LEN 26  /* what vehicle_aim takes */
+#define VEHICLE_AIM_LEN 97      /* what vehicle_aim gives */
+#define VEHICLE_BODY_LEN 16     /* one ground body */
+#define VEHICLE_RAY_LEN 7       /* one ray answer */
+#define VEHICLE_DRIVE_LEN 7     /* what vehicle_drive gives */
+#define VEHICLE_READ_LEN 15     /* what vehicle_read_wheel gives */
+#define VEHICLE_MOST_WHEELS 16
+#define VEHICLE_MOST_BODIES 64
+
+/* ---- What a call answers. ---- */
+
+#define VEHICLE_ACCEPTED 0
+/* A lent array of the wrong length, or a table and whole numbers that no call of these wrote (count above 16, unknown mark, axis above 2).
+ * Lend arrays of the sizes above, and call vehicle_set_up on them first. */
+#define VEHICLE_NO_VEHICLE 1
+/* A number handed in is NaN, infinite or above 2^20 in magnitude; or a stored one is NaN, infinite or above 2^40 in magnitude.
+ * Look for the number that blew up. If it is a stored one, set the vehicle up again. */
+#define VEHICLE_BAD_NUMBER 2
+/* The vehicle has 16 wheels. */
+#define VEHICLE_FULL 3
+/* There is no wheel of this number. Wheels are numbered from 0 in the order in which they were added. */
+#define VEHICLE_NO_SUCH_WHEEL 4
+/* A drive without an aim before it, or a read without a drive before it. An aim, and setting controls, come before the drive; adding a wheel,
+ * setting up and aiming call for a new drive before the next read. */
+#define VEHICLE_WRONG_MOMENT 5
+/* The lists of a drive: not one ray answer for each wheel, over 64 bodies, lists whose lengths do not fit together, a flag that is not 0 or 1,
+ * an unknown kind, a time that is NaN or not from 0 to 1, a body that is not in the list. */
+#define VEHICLE_BAD_LISTS 6
+/* A tyre on the ground would have to push with a demand or a grip limit that is NaN or above 2^40: masses, stiffness or speeds are wild. */
+#define VEHICLE_WILD_GRIP 7
+/* The step would store a number or give a velocity that is NaN or above 2^40 in magnitude: masses, stiffness or speeds are wild. */
+#define VEHICLE_WILD_STEP 8
+/* (9 is of the scenario program.) A setting is out of its range: see each call. */
+#define VEHICLE_OUT_OF_RANGE 10
+
+/* ---- The calls. ---- */
+
+/* Makes the two arrays a vehicle with no wheels, whatever they hold. The axes are 0 for x, 1 for y, 2 for z; the Rust source has up 1 and
+ * forward 0.
+ * Refuses: 1, a wrong length or an axis above 2. */
+uint32_t vehicle_set_up(float *table, size_t table_len, uint32_t *whole, size_t whole_len, uint32_t up, uint32_t forward);
+
+/* Adds a wheel; its number is the count of those before it. The vehicle must be aimed and driven before a wheel is read again.
+ * settings, VEHICLE_SETTINGS_LEN: connection point (3), direction of the suspension (3) and axle (3), relative to the chassis; rest length;
+ * radius; suspension stiffness; damping when compressed; damping when released; travel; side friction stiffness; friction slip; greatest
+ * suspension force.
+ * Refuses, the first that holds: 1; 3; 2; 10, a radius not above 0, or another of the numbers from the rest length on below 0. */
+uint32_t vehicle_add_wheel(float *table, size_t table_len, uint32_t *whole, size_t whole_len, const float *settings, size_t settings_len);
+
+/* Sets the controls of one wheel, kept until they are set again. A vehicle that was aimed must be aimed again.
+ * controls, VEHICLE_CONTROLS_LEN: engine force; brake; steering, a rotation in world space (x, y, z, w).
+ * Refuses, the first that holds: 1; 4; 2; 10, a brake below 0, or a steering whose sum of squares is not from 1 - 2^-10 to 1 + 2^-10. */
+uint32_t vehicle_set_controls(float *table, size_t table_len, uint32_t *whole, size_t whole_len, uint32_t wheel, const float *controls, size_t controls_len);
+
+/* Takes the chassis, keeps it, and gives the rays that the host is to cast.
+ * chassis, VEHICLE_CHASSIS_LEN: translation (3); rotation (x, y, z, w); centre of mass (3); linear velocity (3); angular velocity (3); inverse
+ * mass; effective inverse masses (3); inverse inertia in world space (xx, xy, xz, yy, yz, zz).
+ * results, VEHICLE_AIM_LEN: the signed speed; then for each of 16 wheels where its ray starts (3) and the ray (3), zeros for a wheel that is
+ * not there. The ray ends at time 1.
+ * Refuses, the first that holds: 1; 2; 10, an inverse mass not from 2^-20 to 2^20, a rotation whose sum of squares is not from 1 - 2^-10 to
+ * 1 + 2^-10, or a stored setting out of its range; 8. */
+uint32_t vehicle_aim(float *table, size_t table_len, uint32_t *whole, size_t whole_len, const float *chassis, size_t chassis_len, float *results, size_t results_len);
+
+/* Drives an aimed vehicle by one step on the chassis that the aim kept.
+ * dt: the time step, from 0 to 1.
+ * bodies, VEHICLE_BODY_LEN for each ground body, at most 64: centre of mass (3); linear velocity (3); angular velocity (3); inverse mass;
+ * inverse inertia (xx, xy, xz, yy, yz, zz). dynamic, one for each body: 1 if it is dynamic, else 0.
+ * kinds, one for each wheel: VEHICLE_NOTHING, VEHICLE_HIT, or VEHICLE_HIT_UP.
+ * named, one for each wheel: 0 if the hit names no body, or n for body n - 1 of the list.
+ * rays, VEHICLE_RAY_LEN for each wheel: time of the hit, from 0 to 1; its normal (3); the normal of the upward cast (3). What a kind does not
+ * have is not looked at.
+ * results, VEHICLE_DRIVE_LEN: the chassis' new linear velocity (3) and angular velocity (3); 1 if the chassis is to be woken, else 0.
+ * Refuses, the first that holds: 1; 5; 6; 2; 10, a dt not from 0 to 1, a body whose inverse mass is below 0, or a stored setting or kept
+ * chassis out of its range; 7; 8. */
+uint32_t vehicle_drive(float *table, size_t table_len, uint32_t *whole, size_t whole_len, float dt, const float *bodies, size_t bodies_len, const uint32_t *dynamic, size_t dynamic_len, const uint32_t *kinds, size_t kinds_len, const uint32_t *named, size_t named_len, const float *rays, size_t rays_len, float *results, size_t results_len);
+
+#define VEHICLE_NOTHING 0 /* the ray met nothing */
+#define VEHICLE_HIT 1     /* a hit with its time and normal */
+#define VEHICLE_HIT_UP 2  /* a hit that also has the normal of the upward cast */
+
+/* Reads one wheel of a vehicle that was driven. It changes nothing but the results.
+ * results, VEHICLE_READ_LEN: centre (3), where the tyre is drawn; direction (3) and axle (3) in the world; suspension length; suspension force;
+ * forward impulse; side impulse; skid, below 1 if the tyre slides; rotation.
+ * Refuses, the first that holds: 1; 4; 5; 2. */
+uint32_t vehicle_read_wheel(const float *table, size_t table_len, const uint32_t *whole, size_t whole_len, uint32_t wheel, float *results, size_t results_len);
+
+/* The square root of x, correctly rounded. A NaN, and a number below zero, give a NaN. */
+float vehicle_root(float x);
+
+/* The sizes above, as the library has them. */
+uint32_t vehicle_table_len(void);
+uint32_t vehicle_whole_len(void);
+uint32_t vehicle_settings_len(void);
+uint32_t vehicle_controls_len(void);
+uint32_t vehicle_chassis_len(void);
+uint32_t vehicle_body_len(void);
+uint32_t vehicle_ray_len(void);
+uint32_t vehicle_aim_len(void);
+uint32_t vehicle_drive_len(void);
+uint32_t vehicle_read_len(void);
+
+#ifdef __cplusplus
+}
+#endif
+
+#endif

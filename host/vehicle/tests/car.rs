@@ -1,0 +1,182 @@
+//! The small car of crates/car through the typed calls: two frames worked out by hand, and the moments at which nothing can be read.
+
+use vehicle_controller::{
+    Axis, Chassis, Controls, GroundBody, Inertia, RayAnswer, Refusal, Vector, Vehicle, Velocity,
+    WheelSettings,
+};
+
+const UP: Vector = Vector::new(0.0, 1.0, 0.0);
+const FLOOR: RayAnswer = RayAnswer::Hit { time: 0.75, normal: UP, body: None };
+
+fn wheel(x: f32, z: f32, slip: f32) -> WheelSettings {
+    WheelSettings {
+        connection: Vector::new(x, 0.0, z),
+        direction: Vector::new(0.0, -1.0, 0.0),
+        axle: Vector::new(0.0, 0.0, 1.0),
+        rest_length: 1.0,
+        radius: 1.0,
+        stiffness: 8.0,
+        compression: 2.0,
+        damping: 2.0,
+        travel: 0.5,
+        side_stiffness: 1.0,
+        slip,
+        most_force: 1024.0,
+    }
+}
+
+fn car() -> Result<Vehicle, Refusal> {
+    let mut car = Vehicle::new(Axis::Y, Axis::X)?;
+    for (x, z, slip) in
+        [(1.0, 1.0, 0.3125), (1.0, -1.0, 0.3125), (-1.0, 1.0, 0.3125), (-1.0, -1.0, 8.0)]
+    {
+        car.add_wheel(&wheel(x, z, slip))?;
+    }
+    car.set_controls(0, &Controls { engine: 12.0, ..Controls::default() })?;
+    car.set_controls(1, &Controls { brake: 6.0, ..Controls::default() })?;
+    Ok(car)
+}
+
+/// Mass 4 and no inverse inertia, so that impulses only push.
+fn chassis(linear_velocity: Vector) -> Chassis {
+    Chassis { linear_velocity, ..Chassis::at_rest(0.25, Inertia::default()) }
+}
+
+#[test]
+fn a_frame_on_the_ground() -> Result<(), Refusal> {
+    let mut car = car()?;
+    let aimed = car.aim(&chassis(Vector::new(12.0, 0.0, 5.0)))?;
+    assert_eq!(aimed.speed(), 13.0);
+    assert_eq!(aimed.sights().len(), 4);
+    assert_eq!(aimed.sights()[0].start, Vector::new(1.0, 0.0, 1.0));
+    assert_eq!(aimed.sights()[0].ray, Vector::new(0.0, -2.0, 0.0));
+    let driven = aimed.drive(0.5, &[], &[FLOOR; 4])?;
+    let expected =
+        Velocity { linear: Vector::new(12.0, 8.0, 2.375), angular: Vector::ZERO, wake: true };
+    assert_eq!(driven.velocity(), expected);
+    let tyre = driven.read(0)?;
+    assert_eq!(tyre.centre, Vector::new(1.0, 0.0, 1.0));
+    assert_eq!((tyre.length, tyre.force), (0.5, 16.0));
+    assert_eq!((tyre.forward, tyre.side, tyre.skid, tyre.rotation), (3.0, -2.0, 0.5, 6.0));
+    assert_eq!(driven.read(3)?.skid, 1.0);
+    assert_eq!(driven.read(4), Err(Refusal::NoSuchWheel));
+    Ok(())
+}
+
+#[test]
+fn a_frame_in_the_air_after_it() -> Result<(), Refusal> {
+    let mut car = car()?;
+    car.aim(&chassis(Vector::new(12.0, 0.0, 5.0)))?.drive(0.5, &[], &[FLOOR; 4])?;
+    let aimed = car.aim(&chassis(Vector::new(-12.0, 0.0, 5.0)))?;
+    assert_eq!(aimed.speed(), -13.0);
+    let driven = aimed.drive(0.5, &[], &[RayAnswer::Nothing; 4])?;
+    assert_eq!(driven.velocity().linear, Vector::new(-12.0, 0.0, 5.0));
+    let tyre = driven.read(0)?;
+    // The centre has the length of the drive before; the wheel spins on.
+    assert_eq!((tyre.centre, tyre.length), (Vector::new(1.0, -0.5, 1.0), 1.0));
+    assert_eq!(tyre.rotation, 6.0 + 6.0 * 0.99);
+    Ok(())
+}
+
+#[test]
+fn a_wheel_on_a_moving_body() -> Result<(), Refusal> {
+    let mut car = car()?;
+    let raft = GroundBody {
+        linear_velocity: Vector::new(0.0, 0.0, 5.0),
+        inverse_mass: 0.25,
+        dynamic: true,
+        ..Default::default()
+    };
+    let on_raft = RayAnswer::Hit { time: 0.75, normal: UP, body: Some(0) };
+    let driven =
+        car.aim(&chassis(Vector::new(0.0, 0.0, 5.0)))?.drive(0.5, &[raft], &[on_raft; 4])?;
+    assert_eq!(driven.read(2)?.side, 0.0, "the raft moves along");
+    Ok(())
+}
+
+#[test]
+fn a_hit_from_inside_takes_the_upward_normal() -> Result<(), Refusal> {
+    let mut car = car()?;
+    let down = Vector::new(0.0, -1.0, 0.0);
+    let inside = RayAnswer::HitUp { time: 0.0, normal: Vector::ZERO, upward: down, body: None };
+    let outside = RayAnswer::Hit { time: 0.0, normal: UP, body: None };
+    let start = chassis(Vector::ZERO);
+    let one = car.clone().aim(&start)?.drive(0.5, &[], &[inside; 4])?.velocity();
+    let other = car.aim(&start)?.drive(0.5, &[], &[outside; 4])?.velocity();
+    assert_eq!(one, other);
+    Ok(())
+}
+
+#[test]
+fn the_plain_calls_refuse_at_a_wrong_moment() -> Result<(), Refusal> {
+    let mut car = car()?;
+    assert_eq!(car.read_wheel(0), Err(Refusal::WrongMoment));
+    assert_eq!(car.drive(0.5, &[], &[FLOOR; 4]), Err(Refusal::WrongMoment));
+    car.aim(&chassis(Vector::ZERO))?;
+    assert_eq!(car.read_wheel(0), Err(Refusal::WrongMoment));
+    car.set_controls(0, &Controls::default())?;
+    assert_eq!(
+        car.drive(0.5, &[], &[FLOOR; 4]),
+        Err(Refusal::WrongMoment),
+        "controls ask for a new aim"
+    );
+    car.aim(&chassis(Vector::ZERO))?;
+    car.drive(0.5, &[], &[FLOOR; 4])?;
+    car.read_wheel(0)?;
+    car.set_controls(0, &Controls::default())?;
+    car.read_wheel(0)?;
+    car.add_wheel(&wheel(0.0, 0.0, 1.0))?;
+    assert_eq!(car.read_wheel(0), Err(Refusal::WrongMoment), "a new wheel asks for a new drive");
+    Ok(())
+}
+
+#[test]
+fn refusals_through_the_typed_calls() -> Result<(), Refusal> {
+    let mut car = car()?;
+    assert_eq!(
+        car.add_wheel(&WheelSettings { radius: 0.0, ..wheel(0.0, 0.0, 1.0) }),
+        Err(Refusal::OutOfRange)
+    );
+    assert_eq!(car.set_controls(4, &Controls::default()), Err(Refusal::NoSuchWheel));
+    assert_eq!(
+        car.set_controls(0, &Controls { engine: f32::NAN, ..Controls::default() }),
+        Err(Refusal::BadNumber)
+    );
+    let start = chassis(Vector::ZERO);
+    let over = |answers: &[RayAnswer], bodies: &[GroundBody]| {
+        let mut car = car.clone();
+        let refusal = car.aim(&start)?.drive(0.5, bodies, answers).err();
+        Ok::<_, Refusal>(refusal)
+    };
+    let unlisted = |body| RayAnswer::Hit { time: 0.5, normal: UP, body: Some(body) };
+    assert_eq!(over(&[FLOOR; 3], &[])?, Some(Refusal::BadLists));
+    assert_eq!(over(&[FLOOR; 17], &[])?, Some(Refusal::BadLists));
+    assert_eq!(over(&[FLOOR; 4], &[GroundBody::default(); 65])?, Some(Refusal::BadLists));
+    assert_eq!(over(&[FLOOR; 4], &[GroundBody::default(); 64])?, None);
+    assert_eq!(over(&[unlisted(0); 4], &[])?, Some(Refusal::BadLists));
+    assert_eq!(over(&[unlisted(u32::MAX); 4], &[GroundBody::default()])?, Some(Refusal::BadLists));
+    for _ in 4..16 {
+        car.add_wheel(&wheel(0.0, 0.0, 1.0))?;
+    }
+    assert_eq!(car.add_wheel(&wheel(0.0, 0.0, 1.0)), Err(Refusal::Full));
+    Ok(())
+}
+
+#[test]
+fn each_refusal_has_its_number_and_words() {
+    for number in [1, 2, 3, 4, 5, 6, 7, 8, 10, 99] {
+        let refusal = Refusal::unless_accepted(number).expect_err("a refusal");
+        assert_eq!(refusal.number(), number);
+        let words = refusal.to_string();
+        assert!(
+            words.starts_with(&format!("refused ({number}): ")) && words.ends_with('.'),
+            "{words}"
+        );
+    }
+    assert_eq!(Refusal::unless_accepted(0), Ok(()));
+}
+
+#[test]
+fn the_root_of_two() {
+    assert_eq!(vehicle_controller::ffi::root(2.0).to_bits(), 0x3FB5_04F3);
+}

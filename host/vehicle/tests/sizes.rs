@@ -1,0 +1,79 @@
+//! The sizes and places that this crate and the C header name, held to the library.
+
+use vehicle_controller::ffi::{self, kind, len};
+
+/// A size here, in the library, and its macro in the header.
+fn sizes() -> [(usize, u32, &'static str); 10] {
+    [
+        (len::TABLE, ffi::table_len(), "VEHICLE_TABLE_LEN"),
+        (len::WHOLE, ffi::whole_len(), "VEHICLE_WHOLE_LEN"),
+        (len::SETTINGS, ffi::settings_len(), "VEHICLE_SETTINGS_LEN"),
+        (len::CONTROLS, ffi::controls_len(), "VEHICLE_CONTROLS_LEN"),
+        (len::CHASSIS, ffi::chassis_len(), "VEHICLE_CHASSIS_LEN"),
+        (len::BODY, ffi::body_len(), "VEHICLE_BODY_LEN"),
+        (len::RAY, ffi::ray_len(), "VEHICLE_RAY_LEN"),
+        (len::AIM, ffi::aim_len(), "VEHICLE_AIM_LEN"),
+        (len::DRIVE, ffi::drive_len(), "VEHICLE_DRIVE_LEN"),
+        (len::READ, ffi::read_len(), "VEHICLE_READ_LEN"),
+    ]
+}
+
+/// The value of a macro of the header.
+fn macro_value(name: &str) -> usize {
+    let header = include_str!("../../include/vehicle.h");
+    let line =
+        header.lines().find_map(|line| line.strip_prefix(&format!("#define {name} "))).expect(name);
+    line.split_whitespace().next().and_then(|value| value.parse().ok()).expect(name)
+}
+
+#[test]
+fn sizes_here_are_those_of_the_library_and_the_header() {
+    for (here, library, name) in sizes() {
+        assert_eq!(here, library as usize, "{name}");
+        assert_eq!(here, macro_value(name), "{name}");
+    }
+    assert_eq!(len::WHEELS, macro_value("VEHICLE_MOST_WHEELS"));
+    assert_eq!(len::BODIES, macro_value("VEHICLE_MOST_BODIES"));
+    assert_eq!(kind::NOTHING as usize, macro_value("VEHICLE_NOTHING"));
+    assert_eq!(kind::HIT as usize, macro_value("VEHICLE_HIT"));
+    assert_eq!(kind::HIT_UP as usize, macro_value("VEHICLE_HIT_UP"));
+}
+
+#[test]
+fn sizes_fit_together() {
+    assert_eq!(len::AIM, 1 + len::WHEELS * 6);
+    assert_eq!((len::TABLE - len::CHASSIS) % len::WHEELS, 0);
+}
+
+/// Every number of a flat list is another, so that one in a wrong place shows.
+fn counting<const N: usize>(from: f32) -> [f32; N] {
+    std::array::from_fn(|place| from + place as f32)
+}
+
+#[test]
+fn each_number_lands_at_its_place() {
+    let (mut table, mut whole) = ([0.0; len::TABLE], [0; len::WHOLE]);
+    assert_eq!(ffi::set_up(&mut table, &mut whole, 2, 1), 0);
+    assert_eq!(whole, [0, 0, 2, 1]);
+    let settings: [f32; len::SETTINGS] = counting(100.0);
+    assert_eq!(ffi::add_wheel(&mut table, &mut whole, &settings), 0);
+    assert_eq!(whole[0], 1);
+    let controls = [7.0, 8.0, 0.0, 0.6, 0.0, 0.8];
+    assert_eq!(ffi::set_controls(&mut table, &mut whole, 0, &controls), 0);
+    let mut chassis: [f32; len::CHASSIS] = counting(1.0);
+    chassis[3..7].copy_from_slice(&[0.6, 0.0, 0.0, 0.8]);
+    assert_eq!(ffi::aim(&mut table, &mut whole, &chassis, &mut [0.0; len::AIM]), 0);
+    assert_eq!(table[..len::CHASSIS], chassis, "the chassis is kept as it was handed in");
+    let row = &table[len::CHASSIS..];
+    // The row holds the numbers of the source's `Wheel` in their declared order; `settings` stand in the order of its `add_wheel`.
+    assert_eq!(row[19..28], settings[..9], "connection, direction, axle");
+    assert_eq!([row[28], row[30]], settings[9..11], "rest length, radius");
+    assert_eq!(row[31..34], settings[11..14], "stiffness, compression, damping");
+    assert_eq!(
+        [row[29], row[35], row[34], row[38]],
+        settings[14..],
+        "travel, side stiffness, slip, greatest force"
+    );
+    assert_eq!([row[45], row[46]], controls[..2], "engine, brake");
+    assert_eq!(row[41..45], controls[2..], "steering");
+}

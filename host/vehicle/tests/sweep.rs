@@ -1,0 +1,342 @@
+//! One sweep over what a host can get wrong: every float field of every call, every length, every whole number of a table, every stored number
+//! of a used row, every moment. Each is answered by its number of document 01, and a refusal leaves every bit that was lent as it was.
+
+mod lent;
+
+use std::collections::BTreeMap;
+
+use lent::{
+    accepted, chassis, controls, drive, moments, settings, Call, Drive, Lent, FORWARD, MARK, UP,
+    WHEELS,
+};
+use vehicle_controller::ffi::{kind, len};
+
+const HANDED: f32 = 1_048_576.0; // 2^20
+const STORED: f32 = 1_099_511_627_776.0; // 2^40
+
+/// The bad numbers for a bound: NaN, the infinities and the next float beyond the bound, on both sides.
+fn bad(bound: f32) -> [f32; 5] {
+    let beyond = f32::from_bits(bound.to_bits() + 1);
+    [f32::NAN, f32::INFINITY, f32::NEG_INFINITY, beyond, -beyond]
+}
+
+/// How often each number was met.
+#[derive(Default)]
+struct Swept(BTreeMap<u32, usize>);
+
+impl Swept {
+    /// Makes the call, with results of the length that the state has, and holds it to its number.
+    fn meet(&mut self, what: &str, state: &Lent, call: &Call, number: u32) {
+        let mut lent = state.clone();
+        let answer = lent.call(call);
+        assert_eq!(answer, number, "{what}");
+        if number != 0 {
+            assert!(lent.bits() == state.bits(), "{what}: refused, and something lent has changed");
+        }
+        *self.0.entry(number).or_default() += 1;
+    }
+
+    /// The same, with results of the right length.
+    fn expect(&mut self, what: &str, state: &Lent, call: &Call, number: u32) {
+        self.meet(what, &state.clone().with_results_for(call), call, number);
+    }
+
+    /// Each bad number in each place of a list that a call is handed; the call is made from the list.
+    fn fields(
+        &mut self,
+        what: &str,
+        state: &Lent,
+        list: &[f32],
+        number: impl Fn(usize) -> u32,
+        call: impl Fn(Vec<f32>) -> Call,
+    ) {
+        for place in 0..list.len() {
+            for value in bad(HANDED) {
+                let mut changed = list.to_vec();
+                changed[place] = value;
+                self.expect(
+                    &format!("{what}, number {place}: {value}"),
+                    state,
+                    &call(changed),
+                    number(place),
+                );
+            }
+        }
+    }
+
+    /// Each wrong length of a list, no number among them.
+    fn lengths<T: Copy>(
+        &mut self,
+        what: &str,
+        state: &Lent,
+        list: &[T],
+        number: u32,
+        call: impl Fn(Vec<T>) -> Call,
+    ) {
+        for wrong in wrong_lengths(list) {
+            let length = wrong.len();
+            self.expect(&format!("{what} of length {length}"), state, &call(wrong), number);
+        }
+    }
+}
+
+/// Shorter, longer, empty; and half and double.
+fn wrong_lengths<T: Copy>(list: &[T]) -> Vec<Vec<T>> {
+    let size = list.len();
+    let longer = |more: usize| list.iter().copied().cycle().take(size + more).collect();
+    vec![list[..size - 1].to_vec(), longer(1), Vec::new(), list[..size / 2].to_vec(), longer(size)]
+}
+
+fn with(state: &Lent, change: impl FnOnce(&mut Lent)) -> Lent {
+    let mut changed = state.clone();
+    change(&mut changed);
+    changed
+}
+
+fn driving(change: impl FnOnce(&mut Drive)) -> Call {
+    let mut changed = drive();
+    change(&mut changed);
+    Call::Drive(changed)
+}
+
+/// A read before a drive, a drive before an aim.
+fn wrong_moments(swept: &mut Swept) {
+    for (name, state) in moments() {
+        let drive_number = if name == "aimed" { 0 } else { 5 };
+        let read_number = if name == "driven" { 0 } else { 5 };
+        swept.expect(&format!("drive when {name}"), &state, &Call::Drive(drive()), drive_number);
+        for wheel in 0..WHEELS as u32 {
+            swept.expect(&format!("read when {name}"), &state, &Call::Read(wheel), read_number);
+        }
+        for wheel in [WHEELS as u32, 16, u32::MAX] {
+            swept.expect(&format!("read wheel {wheel}"), &state, &Call::Read(wheel), 4);
+            swept.expect(
+                &format!("controls of wheel {wheel}"),
+                &state,
+                &Call::Controls(wheel, controls()),
+                4,
+            );
+        }
+    }
+}
+
+/// NaN, the infinities and 2^20's next value in each float field of each call.
+fn bad_fields(swept: &mut Swept) {
+    let [(_, new), (_, aimed), _] = moments();
+    swept.fields("settings", &new, &settings(), |_| 2, Call::Add);
+    swept.fields("controls", &new, &controls(), |_| 2, |list| Call::Controls(1, list));
+    swept.fields("chassis", &new, &chassis(), |_| 2, Call::Aim);
+    swept.fields("dt", &aimed, &[drive().dt], |_| 2, |list| driving(|d| d.dt = list[0]));
+    swept.fields("bodies", &aimed, &drive().bodies, |_| 2, |list| driving(|d| d.bodies = list));
+    // A time is refusal 6; what a kind does not have is not looked at.
+    let of_ray = |place: usize| match (drive().kinds[place / len::RAY], place % len::RAY) {
+        (kind::NOTHING, _) => 0,
+        (_, 0) => 6,
+        (kind::HIT, 4..) => 0,
+        _ => 2,
+    };
+    swept.fields("rays", &aimed, &drive().rays, of_ray, |list| driving(|d| d.rays = list));
+}
+
+/// Shorter, longer and empty arrays in each place of each call.
+fn wrong_sizes(swept: &mut Swept) {
+    for (call, state) in accepted() {
+        let state = state.with_results_for(&call);
+        for table in wrong_lengths(&state.table) {
+            swept.meet("table", &with(&state, |lent| lent.table = table), &call, 1);
+        }
+        for whole in wrong_lengths(&state.whole) {
+            swept.meet("whole", &with(&state, |lent| lent.whole = whole), &call, 1);
+        }
+        if !state.results.is_empty() {
+            for results in wrong_lengths(&state.results) {
+                swept.meet("results", &with(&state, |lent| lent.results = results), &call, 1);
+            }
+        }
+    }
+    let [(_, new), (_, aimed), _] = moments();
+    swept.lengths("settings", &new, &settings(), 1, Call::Add);
+    swept.lengths("controls", &new, &controls(), 1, |list| Call::Controls(1, list));
+    swept.lengths("chassis", &new, &chassis(), 1, Call::Aim);
+    swept.lengths("bodies", &aimed, &drive().bodies, 6, |list| driving(|d| d.bodies = list));
+    swept.lengths("dynamic", &aimed, &drive().dynamic, 6, |list| driving(|d| d.dynamic = list));
+    swept.lengths("kinds", &aimed, &drive().kinds, 6, |list| driving(|d| d.kinds = list));
+    swept.lengths("named", &aimed, &drive().named, 6, |list| driving(|d| d.named = list));
+    swept.lengths("rays", &aimed, &drive().rays, 6, |list| driving(|d| d.rays = list));
+}
+
+/// The lists of a drive that do not fit together, or hold what is not known.
+fn bad_lists(swept: &mut Swept) {
+    let [(_, new), (_, aimed), _] = moments();
+    let wheels = |n: usize| {
+        driving(|d| {
+            (d.kinds, d.named, d.rays) = (vec![0; n], vec![0; n], vec![0.0; n * len::RAY]);
+        })
+    };
+    for n in (0..20).chain([1000]).filter(|n| *n != WHEELS) {
+        swept.expect(&format!("{n} answers"), &aimed, &wheels(n), 6);
+    }
+    let grounds = |n: usize| {
+        driving(|d| {
+            (d.bodies, d.dynamic, d.named) =
+                (vec![0.0; n * len::BODY], vec![0; n], vec![0; WHEELS]);
+        })
+    };
+    swept.expect("64 bodies", &aimed, &grounds(64), 0);
+    for n in [65, 66, 1000] {
+        swept.expect(&format!("{n} bodies"), &aimed, &grounds(n), 6);
+    }
+    for value in [2, 3, u32::MAX] {
+        swept.expect(&format!("flag {value}"), &aimed, &driving(|d| d.dynamic[1] = value), 6);
+    }
+    for value in [3, 4, u32::MAX] {
+        swept.expect(&format!("kind {value}"), &aimed, &driving(|d| d.kinds[2] = value), 6);
+        swept.expect(&format!("body {value}"), &aimed, &driving(|d| d.named[0] = value), 6);
+    }
+    for time in [-f32::from_bits(1), -1.0, 1.0 + f32::EPSILON, 2.0] {
+        swept.expect(&format!("time {time}"), &aimed, &driving(|d| d.rays[0] = time), 6);
+    }
+    for time in [0.0, -0.0, 1.0] {
+        swept.expect(&format!("time {time}"), &aimed, &driving(|d| d.rays[0] = time), 0);
+    }
+    // In the order 1, 5, 6, 2: the earlier refusal is given.
+    swept.expect("lists and moment", &new, &wheels(17), 5);
+    swept.expect("lists and shape", &with(&new, |lent| lent.whole[UP] = 3), &wheels(17), 1);
+    swept.expect("lists and number", &aimed, &driving(|d| (d.dt, d.kinds[0]) = (f32::NAN, 3)), 6);
+}
+
+/// Tables that no call wrote.
+fn rubbish(swept: &mut Swept) {
+    for (call, state) in accepted() {
+        // Set-up takes any contents; every other call refuses them.
+        let is_set_up = matches!(call, Call::SetUp(..));
+        let number = |refusal| if is_set_up { 0 } else { refusal };
+        for (place, values) in [
+            (0, [17, 18, u32::MAX]),
+            (MARK, [3, 4, u32::MAX]),
+            (UP, [3, 4, u32::MAX]),
+            (FORWARD, [3, 4, u32::MAX]),
+        ] {
+            for value in values {
+                let spoilt = with(&state, |lent| lent.whole[place] = value);
+                swept.expect(&format!("whole number {place}: {value}"), &spoilt, &call, number(1));
+            }
+        }
+        let row = (len::TABLE - len::CHASSIS) / len::WHEELS;
+        let used = len::CHASSIS + WHEELS * row;
+        for place in 0..len::TABLE {
+            for value in bad(STORED) {
+                let spoilt = with(&state, |lent| lent.table[place] = value);
+                // An add fills the first unused row, whatever it holds; no other call looks at an unused one.
+                let expected = if place < used { number(2) } else { 0 };
+                swept.expect(&format!("stored number {place}: {value}"), &spoilt, &call, expected);
+            }
+        }
+    }
+}
+
+/// One beyond each end of each range.
+fn out_of_range(swept: &mut Swept) {
+    let [(_, new), (_, aimed), _] = moments();
+    let below = -f32::from_bits(1);
+    for place in 9..len::SETTINGS {
+        let mut list = settings();
+        list[place] = below;
+        swept.expect(&format!("setting {place}"), &new, &Call::Add(list), 10);
+    }
+    for radius in [0.0, -0.0] {
+        let mut list = settings();
+        list[10] = radius;
+        swept.expect("radius 0", &new, &Call::Add(list), 10);
+    }
+    let controls_with = |place: usize, value: f32| {
+        let mut list = controls();
+        list[place] = value;
+        Call::Controls(0, list)
+    };
+    swept.expect("brake", &new, &controls_with(1, below), 10);
+    let chassis_with = |place: usize, value: f32| {
+        let mut list = chassis();
+        list[place] = value;
+        Call::Aim(list)
+    };
+    for w in [0.0, 0.999, 1.001, -1.001] {
+        swept.expect("steering", &new, &controls_with(5, w), 10);
+        swept.expect("rotation", &new, &chassis_with(6, w), 10);
+    }
+    for inverse_mass in [0.0, -1.0, f32::from_bits((1.0 / HANDED).to_bits() - 1)] {
+        swept.expect("inverse mass", &new, &chassis_with(16, inverse_mass), 10);
+    }
+    for dt in [below, -1.0, 1.0 + f32::EPSILON, 2.0] {
+        swept.expect("dt", &aimed, &driving(|d| d.dt = dt), 10);
+    }
+    swept.expect(
+        "a body's inverse mass",
+        &aimed,
+        &driving(|d| d.bodies[len::BODY + 9] = below),
+        10,
+    );
+    swept.expect(
+        "a stored radius",
+        &with(&aimed, |lent| lent.table[len::CHASSIS + 30] = 0.0),
+        &Call::Drive(drive()),
+        10,
+    );
+    swept.expect(
+        "a kept rotation",
+        &with(&aimed, |lent| lent.table[6] = 1.01),
+        &Call::Drive(drive()),
+        10,
+    );
+}
+
+/// Wild steps, a full vehicle, and axes.
+fn the_rest(swept: &mut Swept) {
+    let [(_, new), _, _] = moments();
+    for (up, forward) in [(3, 0), (0, 3), (u32::MAX, 0), (0, u32::MAX)] {
+        swept.expect("axes", &new, &Call::SetUp(up, forward), 1);
+    }
+    let full = new.clone().after(&vec![Call::Add(settings()); len::WHEELS - WHEELS]);
+    swept.expect("a wheel too many", &full, &Call::Add(settings()), 3);
+    let mut stiff = settings();
+    stiff[11] = HANDED;
+    let mut light = chassis();
+    light[16] = 1.0 / HANDED;
+    let one = [Call::SetUp(1, 0), Call::Add(stiff.clone()), Call::Aim(light.clone())];
+    let ground = driving(|d| {
+        (d.kinds, d.named, d.rays, d.dt) =
+            (vec![kind::HIT], vec![0], vec![0.0, 0.0, 1.0, 0.0, 0.0, 0.0, 0.0], 1.0);
+    });
+    // The force is 2^20 times 0.5 times mass 2^20 times less than 2, and a slip of 2^20 takes the limit beyond 2^40.
+    stiff[16] = HANDED;
+    let slippery = [Call::SetUp(1, 0), Call::Add(stiff.clone()), Call::Aim(light.clone())];
+    swept.expect("a wild limit", &new.clone().after(&slippery), &ground, 7);
+    (stiff[16], stiff[14]) = (0.0, 8.0);
+    let stretched = [Call::SetUp(1, 0), Call::Add(stiff), Call::Aim(light)];
+    swept.expect("a wild force", &new.clone().after(&stretched), &ground, 8);
+    swept.expect("a stiff wheel", &new.clone().after(&one), &ground, 0);
+    let far = with(&new, |lent| lent.table[len::CHASSIS + 19] = STORED);
+    let mut moved = chassis();
+    moved[0] = HANDED;
+    swept.expect("a hard point too far", &far, &Call::Aim(moved), 8);
+}
+
+#[test]
+fn every_wrong_call_is_answered_by_its_number_and_changes_nothing() {
+    let mut swept = Swept::default();
+    for (call, state) in accepted() {
+        swept.expect("accepted", &state, &call, 0);
+    }
+    wrong_moments(&mut swept);
+    bad_fields(&mut swept);
+    wrong_sizes(&mut swept);
+    bad_lists(&mut swept);
+    rubbish(&mut swept);
+    out_of_range(&mut swept);
+    the_rest(&mut swept);
+    let total: usize = swept.0.values().sum();
+    println!("swept {total} calls; times that each number was given: {:?}", swept.0);
+    let met: Vec<u32> = swept.0.keys().copied().collect();
+    assert_eq!(met, [0, 1, 2, 3, 4, 5, 6, 7, 8, 10]);
+    assert!(total > 25_000, "the sweep has shrunk to {total}");
+}
