@@ -45,7 +45,7 @@ pub fn finish_step(
     requires { ⌜ (length (now table) ≡ at.SIZE) × (n ≤ at.WHEELS) ⌝ }
     ensures { λ r. ⌜ work (now (table .exit)) r ≡ storedWork binary32 dt answers n (pushedWork binary32 up n (work (now (table .entry)) c)) ⌝ }
 {
-    passes::rows::rescale_pass(table, n);
+    slides::rescale_pass(table, n);
     let p = c.pose;
     let axis = vector::rotate(p.rotation, vector::ith(up));
     let after = passes::chassis::push_pass(&table[..], n, c, axis);

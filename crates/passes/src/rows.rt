@@ -1,4 +1,4 @@
-// Passes that change each wheel's row, in the source's order. The first function of a pair changes one wheel, the second is the pass.
+// Passes that change each wheel's row, in the source's order, but for the rescale of rule 8, which is crate `slides`. The first function of a pair changes one wheel, the second is the pass.
 use body::Body;
 use vector::Pose;
 use wheel::RayAnswer;
@@ -9,7 +9,7 @@ ghost use lib.Ieee.{binary32};
 ghost use Rattle.table.specs.Layout as at;
 ghost use Rattle.passes.specs.Frame.{frame, answerAt};
 ghost use Rattle.wheel.specs.Ray.{namedOf};
-ghost use Rattle.passes.specs.Passes.{changed, transformAt, transforms, castAt, casts, suspendAt, suspensions, demandAt, demands, rescaleAt, rescales, spinAt, spins};
+ghost use Rattle.passes.specs.Passes.{changed, transformAt, transforms, castAt, casts, suspendAt, suspensions, demandAt, demands, spinAt, spins};
 
 // Rule 1.
 pub fn transform_wheel(table: &mut [f32], i: usize, pose: Pose)
@@ -114,31 +114,6 @@ pub fn friction_pass(
     let mut i = 0usize;
     while i < n {
         friction_wheel(table, i, dt, chassis, bodies, dynamic, answers, grounded);
-        i += 1usize;
-    }
-}
-
-// Rule 8, the rescale.
-pub fn rescale_wheel(table: &mut [f32], i: usize)
-    requires { ⌜ (length (now table) ≡ at.SIZE) × (i < at.WHEELS) ⌝ }
-    ensures { λ _. ⌜ now (table .exit) ≡ changed (rescaleAt binary32) i (now (table .entry)) ⌝ }
-{
-    let demanded = table::rows::get_wheel(&table[..], i);
-    let d = wheel::step::friction_in(demanded);
-    table::rows::put_wheel(
-        table,
-        i,
-        wheel::step::with_friction(demanded, wheel::step::rescale(d)),
-    );
-}
-
-pub fn rescale_pass(table: &mut [f32], n: usize)
-    requires { ⌜ (length (now table) ≡ at.SIZE) × (n ≤ at.WHEELS) ⌝ }
-    ensures { λ _. ⌜ now (table .exit) ≡ rescales binary32 n (now (table .entry)) ⌝ }
-{
-    let mut i = 0usize;
-    while i < n {
-        rescale_wheel(table, i);
         i += 1usize;
     }
 }

@@ -1,0 +1,86 @@
+-- Laws on records that are gathered from a table, rescaled and put back. In order: a loop that sets elements of a list, and what it leaves; record i once it is gathered and once it is rescaled;
+-- two passes that do the same to each wheel; the three steps are the pass. Assumes nothing.
+use Prim.Native.Nat.{ℕ, zero, suc, _+_, _≤_, _<_}
+use mathlib.Core.List.{List, map}
+use mathlib.Core.Path.{_≡_, refl, ap, _∙_}
+use native.Mathlib.Decide.{decLt}
+use native.Mathlib.Omega.{arith}
+use lib.ListN.{length, take, drop, getD, length-set, length-map, length-replicate, List·getD-append, List·getD-map}
+use lib.Seq.{getD-set-same, getD-set-other, getD-take, length-take-le}
+use lib.Ieee.{Float, Format, lt}
+use Rattle.lists.specs.Counted.{iter}
+use Rattle.wheel.specs.declared.Friction.{Friction}
+use Rattle.wheel.specs.declared.Wheel.{Wheel}
+use Rattle.wheel.specs.Grip.{rescaledBy}
+use Rattle.wheel.specs.Step.{airborne, rescaledOf, frictionIn, withFriction}
+use Rattle.table.specs.Layout as at
+use Rattle.table.specs.Rows.{wheelAt, putWheel}
+use Rattle.table.proofs.Laws.{length-put, wheel-other}
+use Rattle.passes.specs.Passes.{changed, eachWheel, rescaleAt, rescales}
+use Rattle.slides.specs.Slides.{none, gatheredAt, gathered, rescaledFirst, slideOver, scattered}
+
+none-stays : (f : Format) → none ≡ rescaledOf f none
+unfolding rescaledOf rescaledBy lt
+none-stays f = refl
+
+module _ (t : List Float) where
+  -- ---- k turns from i on of a loop that gathers
+  length-gathering : (k i : ℕ) (l : List Friction) → length (iter (gatheredAt t) k i l) ≡ length l
+  unfolding iter gatheredAt
+  length-gathering zero i l = refl
+  length-gathering (suc k) i l = length-gathering k (suc i) _ ∙ length-set l i _
+
+  gathered-outside : (k i j : ℕ) (l : List Friction) → j < i → getD (iter (gatheredAt t) k i l) j none ≡ getD l j none
+  unfolding iter gatheredAt
+  gathered-outside zero i j l h = refl
+  gathered-outside (suc k) i j l h = gathered-outside k (suc i) j _ (omega arith) ∙ getD-set-other l i j _ none (λ e. omega arith)
+
+  gathered-inside : (k i j : ℕ) (l : List Friction) → i ≤ j → j < i + k → j < length l → getD (iter (gatheredAt t) k i l) j none ≡ frictionIn (wheelAt t j)
+  unfolding iter gatheredAt
+  gathered-inside zero i j l a b c = absurd (omega arith)
+  gathered-inside (suc k) i j l a b c =
+      elim (decLt i j) [
+        | yes u ↦ gathered-inside k (suc i) j _ u (omega arith) (omega (arith, length-set l i (frictionIn (wheelAt t i))))
+        | no u ↦ (
+            let e : j ≡ i = omega arith in
+            gathered-outside k (suc i) j _ (omega arith) ∙ rw e (getD-set-same l i _ none (omega arith)))
+      ]
+
+  module _ (n : ℕ) (l : n ≤ at.WHEELS) where
+    length-gathered : length (gathered n t) ≡ at.WHEELS
+    unfolding gathered
+    length-gathered = length-gathering n 0 _ ∙ length-replicate at.WHEELS airborne
+
+    -- ---- record i, gathered, and then rescaled
+    record-gathered : (i : ℕ) → i < n → getD (gathered n t) i none ≡ frictionIn (wheelAt t i)
+    unfolding gathered
+    record-gathered i h = gathered-inside n 0 i _ (omega arith) (omega arith) (omega (arith, length-replicate at.WHEELS airborne))
+
+    record-rescaled : (f : Format) (i : ℕ) → i < n → getD (rescaledFirst f n (gathered n t)) i none ≡ rescaledOf f (frictionIn (wheelAt t i))
+    unfolding rescaledFirst
+    record-rescaled f i h =
+        let first : length (map (rescaledOf f) (take n (gathered n t))) ≡ n = length-map (take n (gathered n t)) (rescaledOf f) ∙ length-take-le n (gathered n t) (omega (arith, length-gathered)) in
+        List·getD-append (map (rescaledOf f) (take n (gathered n t))) (drop n (gathered n t)) none i (omega arith)
+        ∙ ap (getD (map (rescaledOf f) (take n (gathered n t))) i) (none-stays f)
+        ∙ List·getD-map (rescaledOf f) (take n (gathered n t)) i none
+        ∙ ap (rescaledOf f) (getD-take n (gathered n t) i none h ∙ record-gathered i h)
+
+-- ---- two passes that do the same to each wheel
+module _ (g h : ℕ → Wheel → Wheel) where
+  turns-alike : (k i : ℕ) (t : List Float) → length t ≡ at.SIZE → i + k ≤ at.WHEELS → ((j : ℕ) → i ≤ j → j < i + k → g j (wheelAt t j) ≡ h j (wheelAt t j))
+      → iter (changed g) k i t ≡ iter (changed h) k i t
+  unfolding iter changed
+  turns-alike zero i t s l same = refl
+  turns-alike (suc k) i t s l same =
+      rw (same i (omega arith) (omega arith))
+      (turns-alike k (suc i) (putWheel t i (h i (wheelAt t i))) (length-put t i _ s (omega arith)) (omega arith)
+      (λ j a b. rw (wheel-other t i j (h i (wheelAt t i)) (λ e. omega arith) s (omega arith)) (same j (omega arith) (omega arith))))
+
+  pub passes-alike : (n : ℕ) (t : List Float) → length t ≡ at.SIZE → n ≤ at.WHEELS → ((j : ℕ) → j < n → g j (wheelAt t j) ≡ h j (wheelAt t j)) → eachWheel g n t ≡ eachWheel h n t
+  unfolding eachWheel
+  passes-alike n t s l same = turns-alike n 0 t s (omega arith) (λ j a b. same j (omega arith))
+
+-- ---- gathered, rescaled and scattered, the table is as the pass leaves it
+pub scattered-is-pass : (f : Format) (n : ℕ) (t : List Float) → length t ≡ at.SIZE → n ≤ at.WHEELS → scattered (rescaledFirst f n (gathered n t)) n t ≡ rescales f n t
+unfolding scattered rescales slideOver rescaleAt
+scattered-is-pass f n t s l = passes-alike _ _ n t s l (λ j h. ap (withFriction (wheelAt t j)) (record-rescaled t n l f j h))

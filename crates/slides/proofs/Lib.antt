@@ -1,0 +1,5 @@
+-- The laws that proofs over the records cite.
+pub mod Each
+pub mod Field
+pub mod Row
+pub mod Gathers

@@ -1,0 +1,127 @@
+// Rule 8's rescale over a lent slice of small records (forward, side, skid). The records of a table's wheels are gathered, lent, and written back into their rows.
+use table::layout::FORWARD_IMPULSE;
+use table::layout::KEPT;
+use table::layout::ROW;
+use table::layout::SIDE_IMPULSE;
+use table::layout::SKID;
+use wheel::Friction;
+ghost use mathlib.Core.Path.{_≡_};
+ghost use Prim.Native.Nat.{_<_, _≤_};
+ghost use mathlib.Core.List.{map};
+ghost use lib.ListN.{length};
+ghost use lib.Ieee.{binary32};
+ghost use Rattle.wheel.specs.Step.{rescaledOf, frictionIn, withFriction};
+ghost use Rattle.table.specs.Layout as at;
+ghost use Rattle.table.specs.Rows.{wheelOf, wheelAt, rowOf, putWheel};
+ghost use Rattle.passes.specs.Passes.{rescales};
+ghost use Rattle.slides.specs.Slides.{gathered, rescaledFirst, scattered};
+
+// Each record after the rescale.
+pub fn rescale(slides: &mut [Friction])
+    ensures { λ _. ⌜ now (slides .exit) ≡ map (rescaledOf binary32) (now (slides .entry)) ⌝ }
+{
+    let mut i = 0;
+    while i < slides.len() {
+        let mut s = slides[i];
+        if s.skid < 1.0 {
+            s.forward *= s.skid;
+            s.side *= s.skid;
+            slides[i] = s;
+        }
+        i += 1;
+    }
+}
+
+// The first n records after the rescale, the others as they are: those n are lent.
+fn rescale_first(slides: [Friction; 16], n: usize) -> [Friction; 16]
+    requires { ⌜ n ≤ at.WHEELS ⌝ }
+    ensures { λ r. ⌜ r ≡ rescaledFirst binary32 n slides ⌝ }
+{
+    let mut lent = slides;
+    rescale(&mut lent[..n]);
+    lent
+}
+
+// The record of a row.
+fn read_slide(row: &[f32]) -> Friction
+    requires { ⌜ length (now row) ≡ at.ROW ⌝ }
+    ensures { λ r. ⌜ r ≡ frictionIn (wheelOf (now (row .entry))) ⌝ }
+{
+    Friction {
+        forward: row[FORWARD_IMPULSE],
+        side: row[SIDE_IMPULSE],
+        skid: row[SKID],
+    }
+}
+
+// The row with another record.
+fn write_slide(row: &mut [f32], s: Friction)
+    requires { ⌜ length (now row) ≡ at.ROW ⌝ }
+    ensures { λ _. ⌜ now (row .exit) ≡ rowOf (withFriction (wheelOf (now (row .entry))) s) ⌝ }
+{
+    row[FORWARD_IMPULSE] = s.forward;
+    row[SIDE_IMPULSE] = s.side;
+    row[SKID] = s.skid;
+}
+
+// The record of wheel i.
+fn get_slide(table: &[f32], i: usize) -> Friction
+    requires { ⌜ (length (now table) ≡ at.SIZE) × (i < at.WHEELS) ⌝ }
+    ensures { λ r. ⌜ r ≡ frictionIn (wheelAt (now (table .entry)) i) ⌝ }
+{
+    let a = KEPT + i * ROW;
+    let e = a + ROW;
+    read_slide(&table[a..e])
+}
+
+// The table with another record of wheel i: its row is lent on as a part of the table.
+fn put_slide(table: &mut [f32], i: usize, s: Friction)
+    requires { ⌜ (length (now table) ≡ at.SIZE) × (i < at.WHEELS) ⌝ }
+    ensures { λ _. ⌜ now (table .exit) ≡ putWheel (now (table .entry)) i (withFriction (wheelAt (now (table .entry)) i) s) ⌝ }
+{
+    let a = KEPT + i * ROW;
+    let e = a + ROW;
+    write_slide(&mut table[a..e], s);
+}
+
+// The records of the first n wheels; those of a wheel in the air after them.
+fn gather(table: &[f32], n: usize) -> [Friction; 16]
+    requires { ⌜ (length (now table) ≡ at.SIZE) × (n ≤ at.WHEELS) ⌝ }
+    ensures { λ r. ⌜ r ≡ gathered n (now (table .entry)) ⌝ }
+{
+    let airborne = Friction {
+        forward: 0.0,
+        side: 0.0,
+        skid: 1.0,
+    };
+    let mut slides = [airborne; 16];
+    let mut i = 0usize;
+    while i < n {
+        slides[i] = get_slide(table, i);
+        i += 1usize;
+    }
+    slides
+}
+
+// The table with the first n records in the rows of the first n wheels.
+fn scatter(table: &mut [f32], n: usize, slides: [Friction; 16])
+    requires { ⌜ (length (now table) ≡ at.SIZE) × (n ≤ at.WHEELS) ⌝ }
+    ensures { λ _. ⌜ now (table .exit) ≡ scattered slides n (now (table .entry)) ⌝ }
+{
+    let mut i = 0usize;
+    while i < n {
+        let s = slides[i];
+        put_slide(table, i, s);
+        i += 1usize;
+    }
+}
+
+// Rule 8, the rescale of the first n wheels.
+pub fn rescale_pass(table: &mut [f32], n: usize)
+    requires { ⌜ (length (now table) ≡ at.SIZE) × (n ≤ at.WHEELS) ⌝ }
+    ensures { λ _. ⌜ now (table .exit) ≡ rescales binary32 n (now (table .entry)) ⌝ }
+{
+    let demanded = gather(&table[..], n);
+    let slides = rescale_first(demanded, n);
+    scatter(table, n, slides);
+}
