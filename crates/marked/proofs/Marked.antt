@@ -12,4 +12,4 @@ use Rattle.marked.specs.Cases.{numbers, inverse, force, impulses, cases,
 
 pub marked : Met cases
 unfolding Met cases numbers inverse force impulses ratio approachOf lengthOf dampingOf forceOf notBelowZero sub le neg add mul div lt eq rootOf inverseOf raisedOf loweredOf clampOf loadOf slides skidOf rescaledBy brakedOf ofBits toBits writeNumber writeGroups pick
-marked = (refl , (refl , (refl , (refl , (refl , (refl , (refl , (refl , (refl , (refl , (refl , (refl , tt))))))))))))
+marked = (refl, (refl, (refl, (refl, (refl, (refl, (refl, (refl, (refl, (refl, (refl, (refl, tt))))))))))))

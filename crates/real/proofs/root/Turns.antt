@@ -1,4 +1,4 @@
--- The loop of `whole_root`, for a word of any width: W is the word's range, and Q a quarter of it, so that `rest / Q` are the word's upper two digits. v is the number under the root, and B above every root.
+-- The loop of `digit_by_digit`, for a word of any width: W is the word's range, and Q a quarter of it, so that `rest / Q` are the word's upper two digits. v is the number under the root, and B above every root.
 -- Assumes nothing.
 use mathlib.Core.Path.{_≡_, sym, ap, _∙_, subst}
 use Prim.Native.Nat.{ℕ, suc, _+_, _-_, _*_, _/_, _%_, _^_, _≤_, _<_}
