@@ -7,13 +7,14 @@ use native.Mathlib.Omega.{arith}
 use lib.Dec.{eqb}
 use lib.ListN.{length, getD}
 use Rattle.lists.specs.Pick.{pick}
+use Rattle.stream.specs.Layout as code
 use Rattle.scenario.specs.Layout as at
 use Rattle.scenario.specs.Decode.{numberFrom}
-use Rattle.scenario.specs.Drive.{answerFrom, answerWords, answersFrom}
+use Rattle.scenario.specs.Frame.{answerFrom, answerWords, answersFrom}
 
 pub answerWords-le : (kind : ℕ) → answerWords kind ≤ at.HIT-UP-WORDS
 unfolding answerWords pick
-answerWords-le kind = go (eqb kind at.HIT) (eqb kind at.HIT-UP)
+answerWords-le kind = go (eqb kind code.HIT) (eqb kind code.HIT-UP)
   where
     go : (hit up : Bool) → pick hit at.HIT-WORDS (pick up at.HIT-UP-WORDS 1) ≤ at.HIT-UP-WORDS
     go true up = omega arith

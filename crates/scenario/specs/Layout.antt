@@ -1,6 +1,7 @@
--- Where each field of a scenario code stands among its words: the field order of docs/STREAM.md. Word 0 is the code. Each place is a named constant, counted from the one before it. Definitions only.
+-- Where each field of a scenario code stands among its words: the field order of docs/STREAM.md. Word 0 is the code. Each place is a named constant, counted from the one before it. How many words a field has, and how many fields there are at most, the stream's layout says. Definitions only.
 use Prim.Native.Nat.{ℕ, _+_, _*_}
 use Rattle.table.specs.Layout as table
+use Rattle.stream.specs.Layout as code
 
 -- ---- the first field
 abbrev pub FIRST : ℕ
@@ -92,21 +93,10 @@ abbrev pub BODIES : ℕ
 BODIES = BODY-COUNT + 1
 
 abbrev pub FLAG : ℕ
-FLAG = table.BODY
+FLAG = code.BODY-WORDS
 
 abbrev pub BODY-WORDS : ℕ
 BODY-WORDS = FLAG + 1
-
--- the flag of a dynamic body
-abbrev pub DYNAMIC : ℕ
-DYNAMIC = 1
-
--- ---- the kinds of an answer that have fields
-abbrev pub HIT : ℕ
-HIT = 1
-
-abbrev pub HIT-UP : ℕ
-HIT-UP = 2
 
 -- ---- an answer: its kind, and where its fields stand from there. The body's number comes last, and the next answer after it
 abbrev pub TIME : ℕ
@@ -119,7 +109,7 @@ abbrev pub HIT-BODY : ℕ
 HIT-BODY = NORMAL + 3
 
 abbrev pub HIT-WORDS : ℕ
-HIT-WORDS = HIT-BODY + 1
+HIT-WORDS = 1 + code.HIT-WORDS
 
 abbrev pub UPWARD : ℕ
 UPWARD = NORMAL + 3
@@ -128,17 +118,8 @@ abbrev pub HIT-UP-BODY : ℕ
 HIT-UP-BODY = UPWARD + 3
 
 abbrev pub HIT-UP-WORDS : ℕ
-HIT-UP-WORDS = HIT-UP-BODY + 1
+HIT-UP-WORDS = 1 + code.HIT-UP-WORDS
 
--- ---- the most bodies and answers, and the words of the longest code: every body, and every answer with its upward normal
-abbrev pub MOST-BODIES : ℕ
-MOST-BODIES = table.BODIES
-
-abbrev pub MOST-ANSWERS : ℕ
-MOST-ANSWERS = table.WHEELS
-
+-- where the answers start at the latest: behind every body
 abbrev pub LAST-ANSWERS : ℕ
-LAST-ANSWERS = BODIES + MOST-BODIES * BODY-WORDS + 1
-
-abbrev pub CODE-WORDS : ℕ
-CODE-WORDS = LAST-ANSWERS + MOST-ANSWERS * HIT-UP-WORDS
+LAST-ANSWERS = BODIES + code.BODIES * BODY-WORDS + 1

@@ -1,4 +1,4 @@
 pub mod Layout
 pub mod Decode
-pub mod Drive
+pub mod Frame
 pub mod Results

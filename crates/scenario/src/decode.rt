@@ -12,7 +12,7 @@ use wheel::Settings;
 ghost use mathlib.Core.Path.{_≡_};
 ghost use Prim.Native.Nat.{_+_, _<_};
 ghost use lib.ListN.{length};
-ghost use Rattle.scenario.specs.Layout as at;
+ghost use Rattle.stream.specs.Layout as code;
 ghost use Rattle.scenario.specs.Decode.{floatFrom, vectorFrom, rotationFrom, inertiaFrom, settingsFrom, wheelFrom, controlsFrom, chassisFrom};
 
 // The float that stands at a.
@@ -65,7 +65,7 @@ pub fn inertia_from(words: &[u32], a: usize) -> Inertia
 
 // The settings of an add.
 pub fn settings_from(words: &[u32]) -> Settings
-    requires { ⌜ length (now words) ≡ at.CODE-WORDS ⌝ }
+    requires { ⌜ length (now words) ≡ code.CODE-WORDS ⌝ }
     ensures { λ r. ⌜ r ≡ settingsFrom (now (words .entry)) ⌝ }
 {
     Settings {
@@ -86,14 +86,14 @@ pub fn settings_from(words: &[u32]) -> Settings
 
 // The wheel that controls or a read names.
 pub fn wheel_from(words: &[u32]) -> u32
-    requires { ⌜ length (now words) ≡ at.CODE-WORDS ⌝ }
+    requires { ⌜ length (now words) ≡ code.CODE-WORDS ⌝ }
     ensures { λ r. ⌜ r ≡ wheelFrom (now (words .entry)) ⌝ }
 {
     words[WHEEL]
 }
 
 pub fn controls_from(words: &[u32]) -> Controls
-    requires { ⌜ length (now words) ≡ at.CODE-WORDS ⌝ }
+    requires { ⌜ length (now words) ≡ code.CODE-WORDS ⌝ }
     ensures { λ r. ⌜ r ≡ controlsFrom (now (words .entry)) ⌝ }
 {
     Controls {
@@ -105,7 +105,7 @@ pub fn controls_from(words: &[u32]) -> Controls
 
 // The chassis of an aim.
 pub fn chassis_from(words: &[u32]) -> Chassis
-    requires { ⌜ length (now words) ≡ at.CODE-WORDS ⌝ }
+    requires { ⌜ length (now words) ≡ code.CODE-WORDS ⌝ }
     ensures { λ r. ⌜ r ≡ chassisFrom (now (words .entry)) ⌝ }
 {
     let translation = vector_from(words, TRANSLATION);

@@ -1,4 +1,5 @@
-// Where each field of a scenario code stands among its words: the field order of docs/STREAM.md. Word 0 is the code, and each place is counted from the one before it.
+// Where each field of a scenario code stands among its words: the field order of docs/STREAM.md. Word 0 is the code, and each place is counted from the one before it. How many words a field has, and how many fields there are at most, the stream's layout says.
+use stream::layout as code;
 use table::layout;
 
 // The first field.
@@ -62,17 +63,9 @@ pub const BODY_COUNT: usize = STEP + 1;
 
 pub const BODIES: usize = BODY_COUNT + 1;
 
-pub const FLAG: usize = layout::BODY;
+pub const FLAG: usize = code::BODY_WORDS as usize;
 
 pub const BODY_WORDS: usize = FLAG + 1;
-
-// The flag of a dynamic body.
-pub const DYNAMIC: u32 = 1;
-
-// The kinds of an answer that have fields.
-pub const HIT: u32 = 1;
-
-pub const HIT_UP: u32 = 2;
 
 // An answer: its kind, and where its fields stand from there. The body's number comes last, and the next answer after it.
 pub const TIME: usize = 1;
@@ -81,19 +74,13 @@ pub const NORMAL: usize = TIME + 1;
 
 pub const HIT_BODY: usize = NORMAL + 3;
 
-pub const HIT_WORDS: usize = HIT_BODY + 1;
+pub const HIT_WORDS: usize = 1 + code::HIT_WORDS as usize;
 
 pub const UPWARD: usize = NORMAL + 3;
 
 pub const HIT_UP_BODY: usize = UPWARD + 3;
 
-pub const HIT_UP_WORDS: usize = HIT_UP_BODY + 1;
+pub const HIT_UP_WORDS: usize = 1 + code::HIT_UP_WORDS as usize;
 
-// The most bodies and answers, and the words of the longest code: every body, and every answer with its upward normal.
-pub const MOST_BODIES: usize = layout::BODIES;
-
-pub const MOST_ANSWERS: usize = layout::WHEELS;
-
-pub const LAST_ANSWERS: usize = BODIES + MOST_BODIES * BODY_WORDS + 1;
-
-pub const CODE_WORDS: usize = LAST_ANSWERS + MOST_ANSWERS * HIT_UP_WORDS;
+// Where the answers start at the latest: behind every body.
+pub const LAST_ANSWERS: usize = BODIES + (code::BODIES as usize) * BODY_WORDS + 1;

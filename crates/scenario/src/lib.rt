@@ -2,5 +2,5 @@
 pub mod layout; // where each field stands
 pub mod bits; // a float as its bit pattern
 pub mod decode; // the fields of add, controls, aim and read
-pub mod drive; // the lists of a drive
+pub mod frame; // the lists of a drive
 pub mod results; // results as words

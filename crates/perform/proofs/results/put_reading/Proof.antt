@@ -1,0 +1,14 @@
+-- `perform::results::put_reading` meets its contract: `put_numbers` puts them all. Assumes nothing.
+use borrow.Author.Needs.{needs}
+use mathlib.Core.Path.{refl}
+use Rattle.scenario.specs.Results.{wordsOf}
+use Rattle.perform.specs.Call.{readResults}
+use Rattle.perform.proofs.results.put_reading.Statement.{statement}
+use Rattle.perform.proofs.results.put_reading.Tie as tie
+
+returns : tie.Need-returns
+unfolding readResults wordsOf
+returns c = record { bytes = c .before .before .put-numbers .ensures; end = refl }
+
+pub put-reading-spec : {M : Type 1} → statement M
+put-reading-spec = tie.close (tie.spec (λ c. search needs) (λ c κs. search needs) (λ c. search needs) returns)

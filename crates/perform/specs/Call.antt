@@ -1,0 +1,116 @@
+-- Document 01, "Scenario program": the call that a code asks for, its answer number and, if accepted, its results as words. `l` has the words of a whole code, and zeros behind them. Definitions only.
+use Prim.Native.Nat.{ℕ, _≤_}
+use mathlib.Core.List.{List, [], _∷_, _++_}
+use mathlib.Core.Path.{_≡_}
+use lib.Dec.{eqb}
+use lib.Ieee.{Float, binary32}
+use lib.ListN.{length, take, replicate}
+use Rattle.lists.specs.Pick.{pick}
+use Rattle.lists.specs.Part.{paste}
+use Rattle.table.specs.Rows.{vectorList}
+use Rattle.wheel.specs.declared.RayAnswer.the-variants.{Nothing}
+use Rattle.passes.specs.Frame.{Frame, frame}
+use Rattle.refusals.specs.Shape.{countOf}
+use Rattle.refusals.specs.After.{After, after}
+use Rattle.vehicle.specs.declared.Reading.{Reading}
+use Rattle.vehicle.specs.Add.{addWheel}
+use Rattle.vehicle.specs.Controls.{setControls}
+use Rattle.vehicle.specs.Read.{readWheel}
+use Rattle.drive.specs.declared.Sight.{Sight}
+use Rattle.drive.specs.declared.Aimed.{Aimed}
+use Rattle.drive.specs.declared.Driven.{Driven}
+use Rattle.drive.specs.Aim.{aimOf}
+use Rattle.drive.specs.Drive.{driveOf}
+use Rattle.stream.specs.Layout as code
+use Rattle.scenario.specs.Decode.{numberFrom, settingsFrom, wheelFrom, controlsFrom, chassisFrom}
+use Rattle.scenario.specs.Frame.{stepFrom, bodyCountFrom, bodiesFrom, flagsFrom, answerCountFrom, answersStart, answersFrom}
+use Rattle.scenario.specs.Results.{wordsOf, flagWord}
+use Rattle.perform.specs.declared.Answer.{Answer}
+
+-- ---- the results of an accepted call, in the order of docs/STREAM.md
+-- where each ray starts, and the ray
+unfoldable pub sightNumbers : List Sight → List Float
+sightNumbers [] = []
+sightNumbers (s ∷ l) = vectorList (s .hard) ++ (vectorList (s .ray) ++ sightNumbers l)
+
+-- an aim of so many wheels
+unfoldable pub aimResults : ℕ → Aimed → List ℕ
+aimResults wheels r = wordsOf (r .speed ∷ sightNumbers (take wheels (r .sights)))
+
+unfoldable pub driveResults : Driven → List ℕ
+driveResults r = wordsOf (vectorList (r .linvel) ++ vectorList (r .angvel)) ++ (flagWord (r .wake) ∷ [])
+
+unfoldable pub readResults : Reading → List ℕ
+readResults r =
+    wordsOf
+    (vectorList (r .centre)
+    ++ vectorList (r .direction)
+    ++ vectorList (r .axle)
+    ++ (r .length ∷ r .force ∷ r .forward ∷ r .side ∷ r .skid ∷ r .rotation ∷ []))
+
+-- ---- what a code is answered: a number and the results
+pub record Answered : Type 0 where
+  pub number : ℕ
+  pub results : List ℕ
+
+abbrev pub answered : ℕ → List ℕ → Answered
+answered number results = record { number = number; results = results }
+
+-- a call's reply told so: a refusal has no results
+unfoldable pub told : {R : Type 0} → (R → ℕ) → (R → List ℕ) → After R → After Answered
+told number results x =
+    after (answered (number (x .reply)) (pick (eqb (number (x .reply)) 0) (results (x .reply)) [])) (x .table) (x .whole)
+
+-- a reply that is a number alone
+unfoldable pub numbered : After ℕ → After Answered
+numbered x = told (λ n. n) (λ n. []) x
+
+-- ---- the call of each code
+abbrev pub addCall : List ℕ → List Float → List ℕ → After Answered
+addCall l t m = numbered (addWheel t m (settingsFrom l))
+
+abbrev pub controlsCall : List ℕ → List Float → List ℕ → After Answered
+controlsCall l t m = numbered (setControls binary32 t m (wheelFrom l) (controlsFrom l))
+
+abbrev pub aimCall : List ℕ → List Float → List ℕ → After Answered
+aimCall l t m = told (λ r. r .number) (aimResults (countOf m)) (aimOf binary32 t m (chassisFrom l))
+
+-- the frame of a drive, and how many answers it has
+unfoldable pub answersOf : List ℕ → ℕ
+answersOf l = answerCountFrom l (bodyCountFrom l)
+
+-- (a list of answers has room for every wheel: nothing stands behind those that are given)
+unfoldable pub frameFrom : List ℕ → Frame
+frameFrom l =
+    let bodies = bodyCountFrom l in
+    frame (stepFrom l) (bodiesFrom l bodies) (flagsFrom l bodies) (paste (replicate code.ANSWERS Nothing) 0 (answersFrom l (answersStart bodies) (answersOf l)))
+
+abbrev pub driveCall : List ℕ → List Float → List ℕ → After Answered
+driveCall l t m = told (λ r. r .number) driveResults (driveOf binary32 t m (frameFrom l) (answersOf l))
+
+abbrev pub readCall : List ℕ → List Float → List ℕ → After Answered
+readCall l t m = told (λ r. r .number) readResults (readWheel t m (wheelFrom l))
+
+-- by the code; code 0 answers 0 and changes nothing
+unfoldable pub callOf : List ℕ → List Float → List ℕ → After Answered
+callOf l t m =
+    let c = numberFrom l 0 in
+    pick (eqb c code.ADD) (addCall l t m) (
+    pick (eqb c code.CONTROLS) (controlsCall l t m) (
+    pick (eqb c code.AIM) (aimCall l t m) (
+    pick (eqb c code.DRIVE) (driveCall l t m) (
+    pick (eqb c code.READ) (readCall l t m) (
+    after (answered 0 []) t m)))))
+
+-- ---- words with the counts that a well-formed drive has
+pub record Counted (l : List ℕ) : Type 0 where
+  pub bodies : bodyCountFrom l ≤ code.BODIES
+  pub answers : answersOf l ≤ code.ANSWERS
+
+-- a call is made: its number, its results in the lent ones and how many they are, and the table and the whole numbers as it leaves them
+pub record Performs (x : After Answered) (r : Answer) (before results : List ℕ) (t : List Float) (m : List ℕ) : Type 0 where
+  pub number : r .number ≡ x .reply .number
+  pub count : r .count ≡ length (x .reply .results)
+  pub lent : results ≡ paste before 0 (x .reply .results)
+  pub table : t ≡ x .table
+  pub whole : m ≡ x .whole
