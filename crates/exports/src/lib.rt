@@ -1,7 +1,25 @@
-// The functions that a host links: `rt staticlib exports` puts them into one archive.
+// The functions that a host links: `rt staticlib exports` puts them into one archive. They are the calls of crates `vehicle` and `drive` on
+// numbers and flat lists; a list is a pointer and a length. Each is total on every length and every number, answers the refusal number of its
+// call, and refuses with 1, before all else, a list of settings, controls, chassis or results of the wrong length. Results are written only
+// where the answer is 0.
+use table::layout::BODY;
+use table::layout::KEPT;
+use table::layout::SIZE;
+use table::layout::WHOLE;
 ghost use mathlib.Core.Path.{_≡_};
 ghost use lib.Ieee.{binary32};
 ghost use Rattle.real.specs.Root.{rootOf};
+ghost use Rattle.refusals.specs.After.{after};
+ghost use Rattle.table.specs.Layout as lent;
+ghost use Rattle.vehicle.specs.SetUp.{setUp};
+ghost use Rattle.exports.specs.Layout as at;
+ghost use Rattle.exports.specs.Ends.{flat};
+ghost use Rattle.exports.specs.Calls.{flatAdd, flatControls, flatRead, flatAim, flatDrive};
+
+pub mod layout; // where each number stands
+pub mod decode; // what a call is handed
+pub mod answers; // the lists of a drive
+pub mod results; // what a call writes
 
 // The square root of x, correctly rounded. A NaN, and a number below zero, give a NaN.
 #[no_mangle]
@@ -9,4 +27,216 @@ pub extern "C" fn vehicle_root(x: f32) -> f32
     ensures { λ r. ⌜ r ≡ rootOf binary32 x ⌝ }
 {
     real::root::root(x)
+}
+
+// Makes the lent numbers a vehicle with no wheels: `vehicle::set_up::set_up`.
+// Takes: the table, vehicle_table_len numbers, and the whole numbers, vehicle_whole_len, of any contents; the up and the forward axis.
+#[no_mangle]
+pub extern "C" fn vehicle_set_up(table: &mut [f32], whole: &mut [u32], up: u32, forward: u32) -> u32
+    ensures { λ r. ⌜ after r (now (table .exit)) (now (whole .exit)) ≡ setUp (now (table .entry)) (now (whole .entry)) up forward ⌝ }
+{
+    vehicle::set_up::set_up(table, whole, up, forward)
+}
+
+// Adds a wheel: `vehicle::add::add_wheel`.
+// Takes: a vehicle; the settings, vehicle_settings_len numbers: connection point, direction and axle; rest length and radius; stiffness,
+// compression, damping, travel, side friction stiffness, friction slip, maximum force.
+#[no_mangle]
+pub extern "C" fn vehicle_add_wheel(table: &mut [f32], whole: &mut [u32], settings: &[f32]) -> u32
+    ensures { λ r. ⌜ after r (now (table .exit)) (now (whole .exit)) ≡ flatAdd (now (table .entry)) (now (whole .entry)) (now (settings .entry)) ⌝ }
+{
+    if settings.len() != layout::SETTINGS {
+        return 1;
+    }
+    let connection = table::rows::vector_at(settings, layout::CONNECTION);
+    let direction = table::rows::vector_at(settings, layout::DIRECTION);
+    let axle = table::rows::vector_at(settings, layout::AXLE);
+    let rest = settings[layout::REST];
+    let radius = settings[layout::RADIUS];
+    let tuning = decode::tuning_in(settings);
+    vehicle::add::add_wheel(
+        table,
+        whole,
+        connection,
+        direction,
+        axle,
+        rest,
+        radius,
+        tuning,
+    )
+}
+
+// Sets the controls of one wheel: `vehicle::controls::set_controls`.
+// Takes: a vehicle; the wheel's number; the controls, vehicle_controls_len numbers: engine force, brake, and the steering's x, y, z, w.
+#[no_mangle]
+pub extern "C" fn vehicle_set_controls(
+    table: &mut [f32],
+    whole: &mut [u32],
+    wheel: u32,
+    controls: &[f32],
+) -> u32
+    ensures { λ r. ⌜ after r (now (table .exit)) (now (whole .exit)) ≡ flatControls binary32 (now (table .entry)) (now (whole .entry)) wheel (now (controls .entry)) ⌝ }
+{
+    if controls.len() != layout::CONTROLS {
+        return 1;
+    }
+    let engine = controls[layout::ENGINE];
+    let brake = controls[layout::BRAKE];
+    let steering = table::rows::rotation_at(controls, layout::STEERING);
+    vehicle::controls::set_controls(table, whole, wheel, engine, brake, steering)
+}
+
+// Takes the chassis and writes what the host casts: `drive::aim::aim`.
+// Takes: a vehicle; the chassis, vehicle_chassis_len numbers in the order in which the table keeps it.
+// Results, vehicle_aim_len numbers: the signed speed, then for each of the 16 wheels its hard point and its ray, zeros where there is none.
+#[no_mangle]
+pub extern "C" fn vehicle_aim(
+    table: &mut [f32],
+    whole: &mut [u32],
+    chassis: &[f32],
+    results: &mut [f32],
+) -> u32
+    ensures { λ r. ⌜ after (flat r (now (results .exit))) (now (table .exit)) (now (whole .exit)) ≡ flatAim binary32 (now (table .entry)) (now (whole .entry)) (now (chassis .entry)) (now (results .entry)) ⌝ }
+{
+    if chassis.len() != KEPT {
+        return 1;
+    }
+    if results.len() != layout::AIM {
+        return 1;
+    }
+    let c = table::rows::read_chassis(chassis);
+    let r = drive::aim::aim(table, whole, c);
+    results::put_aimed(results, r);
+    r.number
+}
+
+// Drives the vehicle by one step: `drive::drive::drive`. Lists that do not fit together are refusal 6.
+// Takes: an aimed vehicle; the time step; the ground bodies, vehicle_body_len numbers each, with a flag for each, 1 dynamic or 0; and for each
+// wheel the kind of its ray answer (0 nothing, 1 a hit, 2 a hit with the upward normal), the number of the body that it names (0 none, n body
+// n - 1) and vehicle_ray_len numbers of its ray (time, normal, upward normal), of which a kind reads only its own.
+// Results, vehicle_drive_len numbers: the chassis' linear and angular velocity, and 1 where it is to be woken, else 0.
+#[no_mangle]
+pub extern "C" fn vehicle_drive(
+    table: &mut [f32],
+    whole: &mut [u32],
+    dt: f32,
+    bodies: &[f32],
+    dynamic: &[u32],
+    kinds: &[u32],
+    named: &[u32],
+    rays: &[f32],
+    results: &mut [f32],
+) -> u32
+    ensures { λ r. ⌜ after (flat r (now (results .exit))) (now (table .exit)) (now (whole .exit)) ≡ flatDrive binary32 (now (table .entry)) (now (whole .entry)) dt (now (bodies .entry)) (now (dynamic .entry)) (now (kinds .entry)) (now (named .entry)) (now (rays .entry)) (now (results .entry)) ⌝ }
+{
+    if results.len() != layout::DRIVE {
+        return 1;
+    }
+    let number = answers::refuse_lists(&table[..], &whole[..], dynamic, kinds, named, rays);
+    if number != 0 {
+        return number;
+    }
+    let r = answers::drive_lists(table, whole, dt, bodies, dynamic, kinds, named, rays);
+    results::put_driven(results, r);
+    r.number
+}
+
+// Reads one wheel after a drive: `vehicle::read::read_wheel`.
+// Takes: a vehicle; the wheel's number.
+// Results, vehicle_read_len numbers: centre, world direction, world axle, suspension length, force, forward and side impulse, skid, rotation.
+#[no_mangle]
+pub extern "C" fn vehicle_read_wheel(
+    table: &[f32],
+    whole: &[u32],
+    wheel: u32,
+    results: &mut [f32],
+) -> u32
+    ensures { λ r. ⌜ after (flat r (now (results .exit))) (now (table .entry)) (now (whole .entry)) ≡ flatRead (now (table .entry)) (now (whole .entry)) wheel (now (results .entry)) ⌝ }
+{
+    if results.len() != layout::READ {
+        return 1;
+    }
+    let r = vehicle::read::read_wheel(table, whole, wheel);
+    results::put_reading(results, r);
+    r.number
+}
+
+// How many numbers a vehicle's table has.
+#[no_mangle]
+pub extern "C" fn vehicle_table_len() -> u32
+    ensures { λ r. ⌜ r ≡ lent.SIZE ⌝ }
+{
+    SIZE as u32
+}
+
+// How many whole numbers stand beside it.
+#[no_mangle]
+pub extern "C" fn vehicle_whole_len() -> u32
+    ensures { λ r. ⌜ r ≡ lent.WHOLE ⌝ }
+{
+    WHOLE as u32
+}
+
+// How many numbers the settings of a wheel are.
+#[no_mangle]
+pub extern "C" fn vehicle_settings_len() -> u32
+    ensures { λ r. ⌜ r ≡ at.SETTINGS ⌝ }
+{
+    layout::SETTINGS as u32
+}
+
+// How many numbers the controls of a wheel are.
+#[no_mangle]
+pub extern "C" fn vehicle_controls_len() -> u32
+    ensures { λ r. ⌜ r ≡ at.CONTROLS ⌝ }
+{
+    layout::CONTROLS as u32
+}
+
+// How many numbers a chassis is.
+#[no_mangle]
+pub extern "C" fn vehicle_chassis_len() -> u32
+    ensures { λ r. ⌜ r ≡ lent.KEPT ⌝ }
+{
+    KEPT as u32
+}
+
+// How many numbers a ground body is.
+#[no_mangle]
+pub extern "C" fn vehicle_body_len() -> u32
+    ensures { λ r. ⌜ r ≡ lent.BODY ⌝ }
+{
+    BODY as u32
+}
+
+// How many numbers a ray answer is.
+#[no_mangle]
+pub extern "C" fn vehicle_ray_len() -> u32
+    ensures { λ r. ⌜ r ≡ at.RAY ⌝ }
+{
+    layout::RAY as u32
+}
+
+// How many numbers an aim writes.
+#[no_mangle]
+pub extern "C" fn vehicle_aim_len() -> u32
+    ensures { λ r. ⌜ r ≡ at.AIM ⌝ }
+{
+    layout::AIM as u32
+}
+
+// How many numbers a drive writes.
+#[no_mangle]
+pub extern "C" fn vehicle_drive_len() -> u32
+    ensures { λ r. ⌜ r ≡ at.DRIVE ⌝ }
+{
+    layout::DRIVE as u32
+}
+
+// How many numbers a read writes.
+#[no_mangle]
+pub extern "C" fn vehicle_read_len() -> u32
+    ensures { λ r. ⌜ r ≡ at.READ ⌝ }
+{
+    layout::READ as u32
 }

@@ -1,0 +1,134 @@
+// The scenario program between standard input and standard output. What is printed is proved of the functions of `session`, on slices; here bytes
+// are read and text is written. A stream of any length runs in the same memory.
+use libc::STDIN_FILENO;
+use libc::STDOUT_FILENO;
+use session::Stands;
+use session::Step;
+use session::layout::TEXT_BYTES;
+use session::layout::WINDOW_BYTES;
+use table::layout::SIZE;
+use table::layout::WHOLE;
+ghost use Prim.Native.Nat.{_≤_};
+ghost use lib.ListN.{length};
+ghost use Rattle.session.specs.Layout as layout;
+
+// Where the reading stands: how many bytes are in the window, whether the input has ended, and whether the program goes on.
+struct Input {
+    filled: usize,
+    is_last: bool,
+    goes_on: bool,
+}
+
+// Writes the first bytes of a buffer, and answers whether it could.
+fn write_first(out: &[u8], at: usize) -> bool
+    requires { ⌜ at ≤ length (now out) ⌝ }
+{
+    io::write_all(STDOUT_FILENO, &out[..at])
+}
+
+// The same, where the buffer's length is known.
+pub fn write_text(out: &[u8; TEXT_BYTES], at: usize) -> bool
+    requires { ⌜ at ≤ layout.TEXT-BYTES ⌝ }
+{
+    write_first(out, at)
+}
+
+// Reads what comes next, and answers how many bytes: none at the end of the input, or where it cannot be read.
+fn read_some(free: &mut [u8]) -> usize
+    ensures { λ r. ⌜ r ≤ length (now (free .entry)) ⌝ }
+{
+    let got = libc::read(STDIN_FILENO, free);
+    io::count(got, free)
+}
+
+// Reads behind the first bytes of a window, and answers how many it has then.
+fn read_behind(window: &mut [u8], filled: usize) -> usize
+    requires { ⌜ filled ≤ length (now window) ⌝ }
+    ensures { λ r. ⌜ r ≤ length (now (window .entry)) ⌝ }
+{
+    let n = read_some(&mut window[filled..]);
+    filled + n
+}
+
+// The same, where the window's length is known.
+pub fn fill(window: &mut [u8; WINDOW_BYTES], filled: usize) -> usize
+    requires { ⌜ filled ≤ layout.WINDOW-BYTES ⌝ }
+    ensures { λ r. ⌜ r ≤ layout.WINDOW-BYTES ⌝ }
+{
+    read_behind(window, filled)
+}
+
+// What comes after a step: another one at once, or when more bytes have come; or nothing.
+fn read_on(window: &mut [u8; WINDOW_BYTES], step: Step, is_last: bool) -> Input
+    requires { ⌜ step .filled ≤ layout.WINDOW-BYTES ⌝ }
+    ensures { λ r. ⌜ r .filled ≤ layout.WINDOW-BYTES ⌝ }
+{
+    let stands = step.stands;
+    match stands {
+        Stands::Ended => Input {
+            filled: step.filled,
+            is_last,
+            goes_on: false,
+        },
+        Stands::Full => Input {
+            filled: step.filled,
+            is_last,
+            goes_on: true,
+        },
+        Stands::More => {
+            let filled = fill(window, step.filled);
+            Input {
+                filled,
+                is_last: filled == step.filled,
+                goes_on: true,
+            }
+        }
+    }
+}
+
+// Runs the codes in the window, writes their lines, and reads on. A text that cannot be written ends the program.
+fn turn(
+    window: &mut [u8; WINDOW_BYTES],
+    input: Input,
+    table: &mut [f32; SIZE],
+    whole: &mut [u32; WHOLE],
+    out: &mut [u8; TEXT_BYTES],
+) -> Input
+    requires { ⌜ input .filled ≤ layout.WINDOW-BYTES ⌝ }
+    ensures { λ r. ⌜ r .filled ≤ layout.WINDOW-BYTES ⌝ }
+{
+    let step = session::window::step(window, input.filled, input.is_last, table, whole, out);
+    if !write_text(out, step.at) {
+        return Input {
+            filled: 0,
+            is_last: true,
+            goes_on: false,
+        };
+    }
+    read_on(window, step, input.is_last)
+}
+
+// Takes turns from a window with so many bytes until the program ends, and answers how many bytes are left at the window's start: a code 0 that ended it
+// is the first. A proved loop has to end, and nothing says that a stream does: the turns are counted down from a number that no run uses up.
+pub fn serve(
+    window: &mut [u8; WINDOW_BYTES],
+    filled: usize,
+    table: &mut [f32; SIZE],
+    whole: &mut [u32; WHOLE],
+    out: &mut [u8; TEXT_BYTES],
+) -> usize
+    requires { ⌜ filled ≤ layout.WINDOW-BYTES ⌝ }
+    ensures { λ r. ⌜ r ≤ layout.WINDOW-BYTES ⌝ }
+{
+    let mut input = Input {
+        filled,
+        is_last: false,
+        goes_on: true,
+    };
+    let mut turns = u64::MAX;
+    while turns > 0 && input.goes_on {
+        turns -= 1u64;
+        input = turn(window, input, table, whole, out);
+    }
+    input.filled
+}

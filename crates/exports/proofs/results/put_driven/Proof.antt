@@ -1,0 +1,18 @@
+-- `exports::results::put_driven` meets its contract: a refusal leaves the list, and the numbers in order are copied. Assumes nothing.
+use borrow.Author.Needs.{needs}
+use Rattle.exports.specs.Results.{drivenList}
+use Rattle.exports.proofs.Ending.{left-of-refused, written-of-accepted}
+use Rattle.exports.proofs.results.put_driven.Statement.{statement}
+use Rattle.exports.proofs.results.put_driven.Tie as tie
+
+returns : tie.Need-returns
+returns c = left-of-refused _ _ _ (c .if1 .taken)
+
+returns-2 : tie.Need-returns-2
+unfolding drivenList
+returns-2 c =
+    let flag = c .before .before .before .before .before in
+    written-of-accepted _ _ _ _ (flag .before .if1 .left) (rw (← flag .flag-number .ensures) (c .before .before .copy .ensures))
+
+pub put-driven-spec : {M : Type 1} → statement M
+put-driven-spec = tie.close (tie.spec returns (λ c κs. tt) (λ c. search needs) (λ c κs. search needs) (λ c. search needs) returns-2)

@@ -1,0 +1,31 @@
+-- `exports::results::put_sight` meets its contract: the lent part comes back as the sight. Assumes nothing.
+use borrow.Author.Needs.{needs}
+use Prim.Native.Nat.{_+_, _*_}
+use mathlib.Core.Path.{refl}
+use Rattle.lists.proofs.Parts.{paste-is}
+use Rattle.exports.specs.Layout as at
+use Rattle.exports.specs.Results.{sightList}
+use Rattle.exports.proofs.results.put_sight.Statement.{statement}
+use Rattle.exports.proofs.results.put_sight.Tie as tie
+
+returns : tie.Need-returns
+unfolding sightList
+returns c =
+    let a = c .before .before .before .before .before .before .args in
+    paste-is (a .results .now) _ (sightList (a .s)) (at.SIGHTS + a .i * at.SIGHT) at.SIGHT (c .before .before .copy .ensures) refl
+
+pub put-sight-spec : {M : Type 1} → statement M
+put-sight-spec =
+    tie.close
+    (tie.spec
+    (λ c. search needs)
+    (λ c. search needs)
+    (λ c. search needs)
+    (λ c. search needs)
+    (λ c. search needs)
+    (λ c. search needs)
+    (λ c. search needs)
+    (λ c. search needs)
+    (λ c κs. search needs)
+    (λ c. search needs)
+    returns)

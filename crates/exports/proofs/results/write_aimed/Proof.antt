@@ -1,0 +1,15 @@
+-- `exports::results::write_aimed` meets its contract: the speed, and the sights after it, are all of the list. Assumes nothing.
+use borrow.Author.Needs.{needs}
+use mathlib.Core.Path.{_∙_}
+use lib.ListN.{length-set}
+use Rattle.exports.proofs.Sights.{aimed-is}
+use Rattle.exports.proofs.results.write_aimed.Statement.{statement}
+use Rattle.exports.proofs.results.write_aimed.Tie as tie
+
+returns : tie.Need-returns
+returns c =
+    let a = c .before .before .before .before .before .args in
+    c .before .before .put-sights .ensures ∙ aimed-is (a .results .now) (a .speed) (a .sights) (search needs) (search needs)
+
+pub write-aimed-spec : {M : Type 1} → statement M
+write-aimed-spec = tie.close (tie.spec (λ c. search needs) (λ c κs. search needs) (λ c. c .before .before .put-sights .kept .0 ∙ simp length-set) returns)

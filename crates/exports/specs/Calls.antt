@@ -1,0 +1,45 @@
+-- The calls on flat lists: the lengths that are asked for, what is read from the lists, the call itself, and the results that an accepted call writes. Definitions only.
+-- A set-up takes numbers alone, and is stated by its own definition.
+use Prim.Native.Nat.{ℕ}
+use mathlib.Core.List.{List, [], _∷_}
+use lib.ListN.{length}
+use lib.Ieee.{Float, Format}
+use Rattle.lists.specs.Refusal.{firstFailed}
+use Rattle.refusals.specs.After.{After, settled}
+use Rattle.vehicle.specs.Add.{addWheel}
+use Rattle.vehicle.specs.Controls.{setControls}
+use Rattle.vehicle.specs.declared.Reading.{Reading}
+use Rattle.vehicle.specs.Read.{readWheel}
+use Rattle.table.specs.Layout as table
+use Rattle.table.specs.Rows.{chassisOf}
+use Rattle.drive.specs.declared.Aimed.{Aimed}
+use Rattle.drive.specs.Aim.{aimOf}
+use Rattle.drive.specs.declared.Driven.{Driven}
+use Rattle.drive.specs.Drive.{driveOf}
+use Rattle.exports.specs.Layout as at
+use Rattle.exports.specs.Ends.{Flat, flat, ofLength, flattened}
+use Rattle.exports.specs.Decode.{settingsIn, controlsIn}
+use Rattle.exports.specs.Lists.{listTests, frameIn}
+use Rattle.exports.specs.Results.{readingList, aimedList, drivenList}
+
+unfoldable pub flatAdd : List Float → List ℕ → List Float → After ℕ
+flatAdd t m settings = settled (firstFailed (ofLength settings at.SETTINGS ∷ [])) (λ n. n) (addWheel t m (settingsIn settings)) t m
+
+unfoldable pub flatControls : Format → List Float → List ℕ → ℕ → List Float → After ℕ
+flatControls f t m wheel controls = settled (firstFailed (ofLength controls at.CONTROLS ∷ [])) (λ n. n) (setControls f t m wheel (controlsIn controls)) t m
+
+unfoldable pub flatRead : List Float → List ℕ → ℕ → List Float → After Flat
+flatRead t m wheel results =
+    settled (firstFailed (ofLength results at.READ ∷ [])) (λ n. flat n results)
+    (flattened (λ (r : Reading). r .number) readingList results (readWheel t m wheel)) t m
+
+unfoldable pub flatAim : Format → List Float → List ℕ → List Float → List Float → After Flat
+flatAim f t m chassis results =
+    settled (firstFailed (ofLength chassis table.KEPT ∷ ofLength results at.AIM ∷ [])) (λ n. flat n results)
+    (flattened (λ (r : Aimed). r .number) aimedList results (aimOf f t m (chassisOf chassis))) t m
+
+-- an answer for each kind: how many wheels there are is the drive's own test
+unfoldable pub flatDrive : Format → List Float → List ℕ → Float → List Float → List ℕ → List ℕ → List ℕ → List Float → List Float → After Flat
+flatDrive f t m dt bodies dynamic kinds named rays results =
+    settled (firstFailed (ofLength results at.DRIVE ∷ listTests t m dynamic kinds named rays)) (λ n. flat n results)
+    (flattened (λ (r : Driven). r .number) drivenList results (driveOf f t m (frameIn dt bodies dynamic kinds named rays) (length kinds))) t m

@@ -1,0 +1,143 @@
+-- The flat lists that a host hands to the calls, and those that a call writes. Each place is a named constant, counted from the one before it. Definitions only.
+-- The table, its whole numbers, a chassis and a ground body are laid out as in crate `table`; the settings stand in the order of docs/STREAM.md.
+use Prim.Native.Nat.{ℕ, _+_, _*_}
+use Rattle.table.specs.Layout as table
+
+-- ---- the settings of a wheel: three vectors, rest length and radius, then the source's `WheelTuning` in its declared order
+abbrev pub CONNECTION : ℕ
+CONNECTION = 0
+
+abbrev pub DIRECTION : ℕ
+DIRECTION = CONNECTION + 3
+
+abbrev pub AXLE : ℕ
+AXLE = DIRECTION + 3
+
+abbrev pub REST : ℕ
+REST = AXLE + 3
+
+abbrev pub RADIUS : ℕ
+RADIUS = REST + 1
+
+abbrev pub STIFFNESS : ℕ
+STIFFNESS = RADIUS + 1
+
+abbrev pub COMPRESSION : ℕ
+COMPRESSION = STIFFNESS + 1
+
+abbrev pub DAMPING : ℕ
+DAMPING = COMPRESSION + 1
+
+abbrev pub TRAVEL : ℕ
+TRAVEL = DAMPING + 1
+
+abbrev pub SIDE : ℕ
+SIDE = TRAVEL + 1
+
+abbrev pub SLIP : ℕ
+SLIP = SIDE + 1
+
+abbrev pub MOST : ℕ
+MOST = SLIP + 1
+
+abbrev pub SETTINGS : ℕ
+SETTINGS = MOST + 1
+
+-- ---- the controls of a wheel: engine force, brake, and the steering as a rotation
+abbrev pub ENGINE : ℕ
+ENGINE = 0
+
+abbrev pub BRAKE : ℕ
+BRAKE = ENGINE + 1
+
+abbrev pub STEERING : ℕ
+STEERING = BRAKE + 1
+
+abbrev pub CONTROLS : ℕ
+CONTROLS = STEERING + 4
+
+-- ---- what a wheel's ray met: the time, the normal and the normal of the upward cast
+abbrev pub TIME : ℕ
+TIME = 0
+
+abbrev pub NORMAL : ℕ
+NORMAL = TIME + 1
+
+abbrev pub UPWARD : ℕ
+UPWARD = NORMAL + 3
+
+abbrev pub RAY : ℕ
+RAY = UPWARD + 3
+
+-- ---- the results of an aim: the signed speed, and a sight for each wheel, its hard point and its ray
+abbrev pub SIGHT-HARD : ℕ
+SIGHT-HARD = 0
+
+abbrev pub SIGHT-RAY : ℕ
+SIGHT-RAY = SIGHT-HARD + 3
+
+abbrev pub SIGHT : ℕ
+SIGHT = SIGHT-RAY + 3
+
+abbrev pub SPEED : ℕ
+SPEED = 0
+
+abbrev pub SIGHTS : ℕ
+SIGHTS = SPEED + 1
+
+abbrev pub AIM : ℕ
+AIM = SIGHTS + table.WHEELS * SIGHT
+
+-- ---- the results of a drive: both velocities, and whether the chassis is to be woken
+abbrev pub LINVEL : ℕ
+LINVEL = 0
+
+abbrev pub ANGVEL : ℕ
+ANGVEL = LINVEL + 3
+
+abbrev pub WAKE : ℕ
+WAKE = ANGVEL + 3
+
+abbrev pub DRIVE : ℕ
+DRIVE = WAKE + 1
+
+-- ---- the results of a read
+abbrev pub CENTRE : ℕ
+CENTRE = 0
+
+abbrev pub WORLD-DIRECTION : ℕ
+WORLD-DIRECTION = CENTRE + 3
+
+abbrev pub WORLD-AXLE : ℕ
+WORLD-AXLE = WORLD-DIRECTION + 3
+
+abbrev pub LENGTH : ℕ
+LENGTH = WORLD-AXLE + 3
+
+abbrev pub FORCE : ℕ
+FORCE = LENGTH + 1
+
+abbrev pub FORWARD : ℕ
+FORWARD = FORCE + 1
+
+abbrev pub SIDE-IMPULSE : ℕ
+SIDE-IMPULSE = FORWARD + 1
+
+abbrev pub SKID : ℕ
+SKID = SIDE-IMPULSE + 1
+
+abbrev pub ROTATION : ℕ
+ROTATION = SKID + 1
+
+abbrev pub READ : ℕ
+READ = ROTATION + 1
+
+-- ---- the kinds of a ray answer: 0 nothing, then a hit, and a hit with the upward normal; and the flag of a dynamic ground body, 0 being that of another
+abbrev pub HIT : ℕ
+HIT = 1
+
+abbrev pub HIT-UP : ℕ
+HIT-UP = 2
+
+abbrev pub DYNAMIC : ℕ
+DYNAMIC = 1

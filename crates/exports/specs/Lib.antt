@@ -1,0 +1,6 @@
+pub mod Layout
+pub mod Ends
+pub mod Decode
+pub mod Lists
+pub mod Results
+pub mod Calls

@@ -1,0 +1,98 @@
+// The flat lists that a host hands to the calls, and those that a call writes: each place is counted from the one before it. A chassis and a
+// ground body are laid out as in crate `table`.
+use table::layout::WHEELS;
+
+// The settings of a wheel.
+pub const CONNECTION: usize = 0;
+
+pub const DIRECTION: usize = CONNECTION + 3;
+
+pub const AXLE: usize = DIRECTION + 3;
+
+pub const REST: usize = AXLE + 3;
+
+pub const RADIUS: usize = REST + 1;
+
+pub const STIFFNESS: usize = RADIUS + 1;
+
+pub const COMPRESSION: usize = STIFFNESS + 1;
+
+pub const DAMPING: usize = COMPRESSION + 1;
+
+pub const TRAVEL: usize = DAMPING + 1;
+
+pub const SIDE: usize = TRAVEL + 1;
+
+pub const SLIP: usize = SIDE + 1;
+
+pub const MOST: usize = SLIP + 1;
+
+pub const SETTINGS: usize = MOST + 1;
+
+// The controls of a wheel.
+pub const ENGINE: usize = 0;
+
+pub const BRAKE: usize = ENGINE + 1;
+
+pub const STEERING: usize = BRAKE + 1;
+
+pub const CONTROLS: usize = STEERING + 4;
+
+// What a wheel's ray met.
+pub const TIME: usize = 0;
+
+pub const NORMAL: usize = TIME + 1;
+
+pub const UPWARD: usize = NORMAL + 3;
+
+pub const RAY: usize = UPWARD + 3;
+
+// The results of an aim: the signed speed, and a sight for each wheel, its hard point and its ray.
+pub const SIGHT_HARD: usize = 0;
+
+pub const SIGHT_RAY: usize = SIGHT_HARD + 3;
+
+pub const SIGHT: usize = SIGHT_RAY + 3;
+
+pub const SPEED: usize = 0;
+
+pub const SIGHTS: usize = SPEED + 1;
+
+pub const AIM: usize = SIGHTS + WHEELS * SIGHT;
+
+// The results of a drive.
+pub const LINVEL: usize = 0;
+
+pub const ANGVEL: usize = LINVEL + 3;
+
+pub const WAKE: usize = ANGVEL + 3;
+
+pub const DRIVE: usize = WAKE + 1;
+
+// The results of a read.
+pub const CENTRE: usize = 0;
+
+pub const WORLD_DIRECTION: usize = CENTRE + 3;
+
+pub const WORLD_AXLE: usize = WORLD_DIRECTION + 3;
+
+pub const LENGTH: usize = WORLD_AXLE + 3;
+
+pub const FORCE: usize = LENGTH + 1;
+
+pub const FORWARD: usize = FORCE + 1;
+
+pub const SIDE_IMPULSE: usize = FORWARD + 1;
+
+pub const SKID: usize = SIDE_IMPULSE + 1;
+
+pub const ROTATION: usize = SKID + 1;
+
+pub const READ: usize = ROTATION + 1;
+
+// The kinds of a ray answer that met something, the last of which is the highest, and the flag of a dynamic ground body.
+pub const HIT: u32 = 1;
+
+pub const HIT_UP: u32 = 2;
+
+pub const DYNAMIC: u32 = 1;

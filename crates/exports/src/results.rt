@@ -1,0 +1,117 @@
+// The results of a call, written over a lent list where the call is accepted.
+use super::layout::SIGHT;
+use super::layout::SIGHTS;
+use super::layout::SPEED;
+use drive::Aimed;
+use drive::Driven;
+use drive::Sight;
+use table::layout::WHEELS;
+use vehicle::Reading;
+ghost use mathlib.Core.Path.{_≡_};
+ghost use mathlib.Core.List.{_∷_};
+ghost use Prim.Native.Nat.{_+_, _*_, _<_};
+ghost use lib.ListN.{length};
+ghost use Rattle.lists.specs.Part.{paste};
+ghost use Rattle.table.specs.Layout as lent;
+ghost use Rattle.exports.specs.Layout as at;
+ghost use Rattle.exports.specs.Ends.{writtenOver};
+ghost use Rattle.exports.specs.Results.{flagNumber, readingList, drivenList, sightList, sightsList, aimedList};
+
+// The results of a read.
+pub fn put_reading(results: &mut [f32], r: Reading)
+    requires { ⌜ length (now results) ≡ at.READ ⌝ }
+    ensures { λ _. ⌜ now (results .exit) ≡ writtenOver (now (results .entry)) (r .number) (readingList r) ⌝ }
+{
+    if r.number != 0 {
+        return;
+    }
+    let numbers = [
+        r.centre.x,
+        r.centre.y,
+        r.centre.z,
+        r.direction.x,
+        r.direction.y,
+        r.direction.z,
+        r.axle.x,
+        r.axle.y,
+        r.axle.z,
+        r.length,
+        r.force,
+        r.forward,
+        r.side,
+        r.skid,
+        r.rotation,
+    ];
+    table::rows::copy(results, &numbers);
+}
+
+// Yes as 1, no as 0.
+fn flag_number(flag: bool) -> f32
+    ensures { λ r. ⌜ r ≡ flagNumber flag ⌝ }
+{
+    if flag { 1.0 } else { 0.0 }
+}
+
+// The results of a drive.
+pub fn put_driven(results: &mut [f32], d: Driven)
+    requires { ⌜ length (now results) ≡ at.DRIVE ⌝ }
+    ensures { λ _. ⌜ now (results .exit) ≡ writtenOver (now (results .entry)) (d .number) (drivenList d) ⌝ }
+{
+    if d.number != 0 {
+        return;
+    }
+    let numbers = [
+        d.linvel.x,
+        d.linvel.y,
+        d.linvel.z,
+        d.angvel.x,
+        d.angvel.y,
+        d.angvel.z,
+        flag_number(d.wake),
+    ];
+    table::rows::copy(results, &numbers);
+}
+
+// The sight of wheel i, at its place.
+fn put_sight(results: &mut [f32], i: usize, s: Sight)
+    requires { ⌜ (length (now results) ≡ at.AIM) × (i < lent.WHEELS) ⌝ }
+    ensures { λ _. ⌜ now (results .exit) ≡ paste (now (results .entry)) (at.SIGHTS + i * at.SIGHT) (sightList s) ⌝ }
+{
+    let a = SIGHTS + i * SIGHT;
+    let e = a + SIGHT;
+    let numbers = [s.hard.x, s.hard.y, s.hard.z, s.ray.x, s.ray.y, s.ray.z];
+    table::rows::copy(&mut results[a..e], &numbers);
+}
+
+// The sights of all wheels, at their places.
+fn put_sights(results: &mut [f32], sights: [Sight; 16])
+    requires { ⌜ length (now results) ≡ at.AIM ⌝ }
+    ensures { λ _. ⌜ now (results .exit) ≡ paste (now (results .entry)) at.SIGHTS (sightsList sights) ⌝ }
+{
+    let mut i = 0usize;
+    while i < WHEELS {
+        put_sight(results, i, sights[i]);
+        i += 1usize;
+    }
+}
+
+// The speed and the sights.
+fn write_aimed(results: &mut [f32], speed: f32, sights: [Sight; 16])
+    requires { ⌜ length (now results) ≡ at.AIM ⌝ }
+    ensures { λ _. ⌜ now (results .exit) ≡ speed ∷ sightsList sights ⌝ }
+{
+    results[SPEED] = speed;
+    put_sights(results, sights);
+}
+
+// The results of an aim.
+pub fn put_aimed(results: &mut [f32], a: Aimed)
+    requires { ⌜ length (now results) ≡ at.AIM ⌝ }
+    ensures { λ _. ⌜ now (results .exit) ≡ writtenOver (now (results .entry)) (a .number) (aimedList a) ⌝ }
+{
+    if a.number != 0 {
+        return;
+    }
+    let sights = a.sights;
+    write_aimed(results, a.speed, sights);
+}

@@ -1,0 +1,14 @@
+// Document 01, "Scenario program": a stream of codes from standard input, and a line for each to standard output.
+use table::layout::SIZE;
+use table::layout::WHOLE;
+
+fn main() {
+    let mut table = [0.0; SIZE];
+    let mut whole = [0u32; WHOLE];
+    let mut window = io::large_buffer();
+    let mut out = io::large_buffer();
+    let at = session::start::start(&mut table, &mut whole, &mut out);
+    if console::write_text(&out, at) {
+        console::serve(&mut window, 0, &mut table, &mut whole, &mut out);
+    }
+}

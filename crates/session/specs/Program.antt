@@ -1,0 +1,59 @@
+-- Document 01, "Scenario program": what the program prints for a stream of bytes. Definitions only.
+use Prim.Native.Nat.{ℕ, zero, suc}
+use mathlib.Core.List.{List, [], _++_}
+use lib.Dec.{eqb}
+use lib.Ieee.{Float}
+use lib.ListN.{length, drop, replicate}
+use Rattle.lists.specs.Pick.{pick}
+use Rattle.lists.specs.Part.{paste}
+use Rattle.real.specs.Number.{zero as noNumber}
+use Rattle.table.specs.Layout as at
+use Rattle.vehicle.specs.SetUp.{setUp}
+use Rattle.stream.specs.declared.Code.{Code}
+use Rattle.stream.specs.Layout as code
+use Rattle.stream.specs.Code.{Reading, shown, readCode}
+use Rattle.lines.specs.Line.{line, title}
+use Rattle.perform.specs.Call.{callOf}
+
+-- what the program keeps: the table and the whole numbers
+pub record Car : Type 0 where
+  pub table : List Float
+  pub whole : List ℕ
+
+abbrev pub car : List Float → List ℕ → Car
+car t m = record { table = t; whole = m }
+
+-- "The table starts set up with axes 1 and 0."
+unfoldable pub startCar : Car
+startCar =
+    let x = setUp (replicate at.SIZE noNumber) (replicate at.WHOLE 0) 1 0 in
+    car (x .table) (x .whole)
+
+-- "A malformed place gives 9 and stops."
+abbrev pub MALFORMED : ℕ
+MALFORMED = 9
+
+-- the words of a code, with zeros behind them
+unfoldable pub padded : List ℕ → List ℕ
+padded l = paste (replicate code.CODE-WORDS 0) 0 l
+
+-- what is printed from a code on, by what stands at the start of the bytes; `on` prints what follows it. An end before code 0 is a malformed place too.
+unfoldable pub printedBy : (Car → List ℕ → List ℕ) → Code → List ℕ → Car → List ℕ → List ℕ
+printedBy on (Code.Whole n taken) l s bytes =
+    let x = callOf (padded l) (s .table) (s .whole) in
+    line (shown l) (x .reply .number) (x .reply .results) ++ pick (eqb (shown l) code.END) [] (on (car (x .table) (x .whole)) (drop taken bytes))
+printedBy on (Code.Short c) l s bytes = line c MALFORMED []
+printedBy on (Code.Malformed c) l s bytes = line c MALFORMED []
+
+-- with at most k codes
+unfoldable pub printedOn : ℕ → Car → List ℕ → List ℕ
+printedOn zero s bytes = []
+printedOn (suc k) s bytes = printedBy (printedOn k) (readCode bytes .code) (readCode bytes .words) s bytes
+
+-- from a code on, to the end of the stream; each code takes a byte at least
+unfoldable pub printedFrom : Car → List ℕ → List ℕ
+printedFrom s bytes = printedOn (suc (length bytes)) s bytes
+
+-- the whole stream
+unfoldable pub printed : List ℕ → List ℕ
+printed bytes = title ++ printedFrom startCar bytes

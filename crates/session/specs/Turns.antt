@@ -1,0 +1,55 @@
+-- Document 01, "Scenario program": one code, taken from the bytes that are there. "A code is read whole before its call." Definitions only.
+use Prim.Native.Nat.{ℕ}
+use mathlib.Core.Bool.{Bool}
+use mathlib.Core.List.{List, []}
+use mathlib.Core.Path.{_≡_}
+use lib.Dec.{eqb}
+use lib.Ieee.{Float}
+use Rattle.lists.specs.Pick.{pick}
+use Rattle.stream.specs.declared.Code.{Code}
+use Rattle.stream.specs.Layout as code
+use Rattle.stream.specs.Code.{Reading, shown, readCode}
+use Rattle.lines.specs.Line.{line, Puts}
+use Rattle.perform.specs.Call.{callOf}
+use Rattle.session.specs.declared.Next.{Next}
+use Rattle.session.specs.declared.Turn.{Turn}
+use Rattle.session.specs.Program.{Car, car, MALFORMED, padded}
+
+-- what a code makes: what is printed, the car afterwards, and what follows
+pub record Turned : Type 0 where
+  pub text : List ℕ
+  pub car : Car
+  pub next : Next
+
+abbrev pub turned : List ℕ → Car → Next → Turned
+turned l s n = record { text = l; car = s; next = n }
+
+-- what follows a code that took so many bytes: nothing follows code 0
+unfoldable pub following : ℕ → ℕ → Next
+following c taken = pick (eqb c code.END) Next.Ended (Next.On taken)
+
+-- the call of the words l, which took so many bytes
+unfoldable pub called : List ℕ → ℕ → Car → Turned
+called l taken s =
+    let x = callOf l (s .table) (s .whole) in
+    turned (line (shown l) (x .reply .number) (x .reply .results)) (car (x .table) (x .whole)) (following (shown l) taken)
+
+-- a malformed place in the code c
+unfoldable pub malformed : ℕ → Car → Turned
+malformed c s = turned (line c MALFORMED []) s Next.Ended
+
+-- by what stands at the start of the bytes: too few of them are malformed only where they are the last
+unfoldable pub turnedBy : Bool → Code → List ℕ → Car → Turned
+turnedBy last (Code.Whole n taken) l s = called (padded l) taken s
+turnedBy last (Code.Short c) l s = pick last (malformed c s) (turned [] s Next.More)
+turnedBy last (Code.Malformed c) l s = malformed c s
+
+unfoldable pub turnOf : Bool → Car → List ℕ → Turned
+turnOf last s bytes = turnedBy last (readCode bytes .code) (readCode bytes .words) s
+
+-- a code is taken: its text is put, and the table and the whole numbers are the car's
+pub record Turns (x : Turned) (r : Turn) (at : ℕ) (before after : List ℕ) (t : List Float) (m : List ℕ) : Type 0 where
+  pub puts : Puts before after at (r .at) (x .text)
+  pub next : r .next ≡ x .next
+  pub table : t ≡ x .car .table
+  pub whole : m ≡ x .car .whole
