@@ -34,12 +34,7 @@ const DRIVERS: [Driver; 3] = [
 
 /// The example's bytes.
 pub fn example() -> Vec<u8> {
-    let mut script = Script::new();
-    for x in [1.25, -1.25] {
-        for z in [0.75, -0.75] {
-            script.add(wheel(Vector::new(x, CONNECTION, z)));
-        }
-    }
+    let mut script = with_wheels();
     let mut chassis = standing();
     for driver in &DRIVERS {
         for _ in 0..FRAMES {
@@ -48,6 +43,27 @@ pub fn example() -> Vec<u8> {
     }
     read_too_early(&mut script, chassis);
     stream_of(&script.finished())
+}
+
+/// A long stream in three parts: the first once, the second for each drive, the last once.
+pub fn drives() -> [Vec<u8>; 3] {
+    let mut script = with_wheels();
+    let start = script.codes.len();
+    let answers = script.aim(standing()).rays.iter().map(|ray| ground(*ray)).collect();
+    script.drive(Drive { dt: DT, bodies: Vec::new(), answers });
+    let end = script.codes.len();
+    let codes = script.finished();
+    [stream_of(&codes[..start]), stream_of(&codes[start..end]), stream_of(&codes[end..])]
+}
+
+fn with_wheels() -> Script {
+    let mut script = Script::new();
+    for x in [1.25, -1.25] {
+        for z in [0.75, -0.75] {
+            script.add(wheel(Vector::new(x, CONNECTION, z)));
+        }
+    }
+    script
 }
 
 /// A wheel read between aim and drive: refused.

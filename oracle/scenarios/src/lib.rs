@@ -18,7 +18,7 @@ mod wild;
 
 use random::Random;
 
-pub use example::example;
+pub use example::{drives, example};
 pub use rubbish::{rubbish, Rubbish};
 
 /// What a scenario is like.

@@ -1,34 +1,50 @@
 //! `scenarios KIND SEED`: writes the scenario's bytes to standard output. The kind `rubbish`
 //! writes a table's contents and codes, as `oracle --state` reads them. `scenarios example` writes
-//! the example of `examples/`.
+//! the example of `examples/`, `scenarios drives N` a stream of N aims and drives.
 #![forbid(unsafe_code)]
 
-use std::io::{self, Write};
+use std::io::{self, BufWriter, Write};
 use std::process::ExitCode;
 
-use scenarios::{example, generate, rubbish, Kind};
+use scenarios::{drives, example, generate, rubbish, Kind};
 
 fn main() -> ExitCode {
     let arguments: Vec<String> = std::env::args().skip(1).collect();
-    let Some(bytes) = wanted(&arguments) else {
+    let Some(written) = write(&arguments) else {
         let names = Kind::ALL.map(Kind::name).join(" | ");
-        eprintln!("usage: scenarios {names} | rubbish SEED > stream, or scenarios example > stream");
+        eprintln!("usage: scenarios {names} | rubbish SEED > stream");
+        eprintln!("       scenarios example > stream, scenarios drives N > stream");
         return ExitCode::from(2);
     };
-    match io::stdout().lock().write_all(&bytes) {
+    match written {
         Ok(()) => ExitCode::SUCCESS,
         Err(_) => ExitCode::from(1),
     }
 }
 
-fn wanted(arguments: &[String]) -> Option<Vec<u8>> {
-    if let [kind] = arguments {
-        return (kind == "example").then(example);
+/// None where the arguments are not understood.
+fn write(arguments: &[String]) -> Option<io::Result<()>> {
+    let mut out = BufWriter::new(io::stdout().lock());
+    match arguments {
+        [kind] if kind == "example" => Some(out.write_all(&example())),
+        [kind, count] if kind == "drives" => Some(write_drives(&mut out, count.parse().ok()?)),
+        [kind, seed] => Some(out.write_all(&scenario(kind, seed.parse().ok()?)?)),
+        _ => None,
     }
-    let [kind, seed] = arguments else { return None };
-    let seed = seed.parse().ok()?;
+}
+
+fn scenario(kind: &str, seed: u64) -> Option<Vec<u8>> {
     if kind == "rubbish" {
         return Some(rubbish(seed).stream());
     }
     Kind::named(kind).map(|kind| generate(kind, seed))
+}
+
+fn write_drives(out: &mut impl Write, count: u64) -> io::Result<()> {
+    let [first, drive, last] = drives();
+    out.write_all(&first)?;
+    for _ in 0..count {
+        out.write_all(&drive)?;
+    }
+    out.write_all(&last)
 }
