@@ -22,36 +22,36 @@ use Rattle.drive.specs.declared.Driven.{Driven}
 use Rattle.drive.specs.Drive.{demandStep, wholeStep, earlyTests, stepTests, refuseDrive, wakes, notDriven, drivenBy, Tried, tried, tryDrive, driveOf}
 use Rattle.drive.proofs.Refused.{early-numbered}
 
--- the step on a copy of the table: `demanded` and c after the demands, `last` and c' at its end
-module _ (f : Format) (t copied demanded : List Float) (up : ℕ) (r : Frame) (n : ℕ) (c : Chassis) (admitted : Bool) where
-  pub tried-7 : (reply : Driven) → copied ≡ t → work demanded c ≡ demandStep f copied r n
+-- the step: `demanded` and c after the demands, `last` and c' at its end, t' the table as it is left
+module _ (f : Format) (t t' demanded : List Float) (up : ℕ) (r : Frame) (n : ℕ) (c : Chassis) (admitted : Bool) where
+  pub tried-7 : (reply : Driven) → work demanded c ≡ demandStep f t r n
       → admitted ≡ demandsAdmitted f (r .dt) (r .answers) n demanded → not admitted ≡ true
-      → reply ≡ notDriven 7 → tried reply t ≡ tryDrive f t up r n
+      → reply ≡ notDriven 7 → t' ≡ t → tried reply t' ≡ tryDrive f t up r n
   unfolding tryDrive stepTests firstFailed pick
-  tried-7 reply e w p q l = rw (l, ← e, ← w, ← p, not-true admitted q)
+  tried-7 reply w p q l k = rw (l, k, ← w, ← p, not-true admitted q)
 
   module _ (last : List Float) (c' : Chassis) (within : Bool) where
-    whole-is : copied ≡ t → work demanded c ≡ demandStep f copied r n
+    whole-is : work demanded c ≡ demandStep f t r n
         → work last c' ≡ storedWork f (r .dt) (r .answers) n (pushedWork f up n (work demanded c)) → wholeStep f t up r n ≡ work last c'
     unfolding wholeStep
-    whole-is e w x = rw (← e, ← w, ← x)
+    whole-is w x = rw (← w, ← x)
 
-    pub tried-8 : (reply : Driven) → copied ≡ t → work demanded c ≡ demandStep f copied r n
+    pub tried-8 : (reply : Driven) → work demanded c ≡ demandStep f t r n
         → admitted ≡ demandsAdmitted f (r .dt) (r .answers) n demanded → not admitted ≡ false
         → work last c' ≡ storedWork f (r .dt) (r .answers) n (pushedWork f up n (work demanded c))
         → within ≡ storedWithin last n → not within ≡ true
-        → reply ≡ notDriven 8 → tried reply t ≡ tryDrive f t up r n
+        → reply ≡ notDriven 8 → t' ≡ t → tried reply t' ≡ tryDrive f t up r n
     unfolding tryDrive stepTests firstFailed pick
-    tried-8 reply e w p q x s u l = rw (l, whole-is e w x, ← e, ← w, ← p, not-false admitted q, ← s, not-true within u)
+    tried-8 reply w p q x s u l k = rw (l, k, whole-is w x, ← w, ← p, not-false admitted q, ← s, not-true within u)
 
-    pub tried-done : (t' : List Float) (wake : Bool) → copied ≡ t → work demanded c ≡ demandStep f copied r n
+    pub tried-done : (kept : List Float) (wake : Bool) → work demanded c ≡ demandStep f t r n
         → admitted ≡ demandsAdmitted f (r .dt) (r .answers) n demanded → not admitted ≡ false
         → work last c' ≡ storedWork f (r .dt) (r .answers) n (pushedWork f up n (work demanded c))
         → within ≡ storedWithin last n → not within ≡ false
-        → wake ≡ wakes t n → t' ≡ last
-        → tried (record { number = 0; linvel = c' .body .linvel; angvel = c' .body .angvel; wake = wake }) t' ≡ tryDrive f t up r n
+        → wake ≡ wakes kept n → kept ≡ t
+        → tried (record { number = 0; linvel = c' .body .linvel; angvel = c' .body .angvel; wake = wake }) last ≡ tryDrive f t up r n
     unfolding tryDrive stepTests firstFailed pick drivenBy
-    tried-done t' wake e w p q x s u v l = rw (l, v, whole-is e w x, ← e, ← w, ← p, not-false admitted q, ← s, not-false within u)
+    tried-done kept wake w p q x s u v k = rw (v, k, whole-is w x, ← w, ← p, not-false admitted q, ← s, not-false within u)
 
 -- ---- what a tried step says of the drive, whose reply has the number of the first failed test of the step
 module _ (f : Format) (t t' : List Float) (m : List ℕ) (r : Frame) (n : ℕ) (reply : Driven) (h : tried reply t' ≡ tryDrive f t (upOf m) r n) where

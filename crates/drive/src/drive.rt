@@ -10,7 +10,6 @@ use table::layout::BODY;
 use table::layout::COUNT;
 use table::layout::DRIVEN;
 use table::layout::MARK;
-use table::layout::SIZE;
 use table::layout::UP;
 use wheel::RayAnswer;
 ghost use mathlib.Core.Path.{_≡_};
@@ -148,7 +147,7 @@ fn not_driven(number: u32) -> Driven
     }
 }
 
-// The step on a copy of the table, which takes the table's place only if it is accepted: refusals 7 and 8.
+// The step, on the table itself. A step that is refused, with 7 or 8, gives the table its numbers back.
 fn try_drive(
     table: &mut [f32],
     up: u32,
@@ -161,18 +160,20 @@ fn try_drive(
     requires { ⌜ (length (now table) ≡ at.SIZE) × (n ≤ at.WHEELS) × ((i : ℕ) → i < n → namedOf (answerAt answers i) ≤ length (now dynamic)) × (length (now dynamic) ≤ at.BODIES) × (length (now bodies) ≡ length (now dynamic) * at.BODY) ⌝ }
     ensures { λ r. ⌜ tried r (now (table .exit)) ≡ tryDrive binary32 (now (table .entry)) up (frame dt (now (bodies .entry)) (now (dynamic .entry)) answers) n ⌝ }
 {
-    let mut work = [0.0; SIZE];
-    table::rows::copy(&mut work, &table[..]);
-    let c = super::step::demand_step(&mut work, dt, bodies, dynamic, answers, n);
-    if !passes::chassis::are_admitted(&work, n, dt, answers) {
+    let kept = table::rows::copied(&table[..]);
+    let d = super::step::demand_step(table, dt, bodies, dynamic, answers, n);
+    if !passes::chassis::are_admitted(&table[..], n, dt, answers) {
+        table::rows::copy(table, &kept);
         return not_driven(7);
     }
-    let after = super::step::finish_step(&mut work, up, dt, answers, n, c);
-    if !table::bounds::stored_within(&work, n) {
+    let c = d.chassis;
+    let directions = d.directions;
+    let after = super::step::finish_step(table, up, dt, answers, n, c, directions);
+    if !table::bounds::stored_within(&table[..], n) {
+        table::rows::copy(table, &kept);
         return not_driven(8);
     }
-    let wake = wakes_up(&table[..], n);
-    table::rows::copy(table, &work);
+    let wake = wakes_up(&kept, n);
     let b = after.body;
     let linvel = b.linvel;
     let angvel = b.angvel;

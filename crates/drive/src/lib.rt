@@ -1,5 +1,7 @@
 // A frame of the vehicle: aim, then drive with what the host's rays met. The other calls are in crate `vehicle`.
+use body::Chassis;
 use vector::Vector;
+use wheel::Directions;
 
 pub mod aim; // aim
 pub mod step; // the passes of a drive
@@ -24,4 +26,10 @@ pub struct Driven {
     pub linvel: Vector,
     pub angvel: Vector,
     pub wake: bool,
+}
+
+// What a step has as far as the demands: the chassis after the springs, and the directions of each wheel.
+pub struct Demanded {
+    pub chassis: Chassis,
+    pub directions: [Directions; 16],
 }

@@ -65,11 +65,11 @@ module _ (g : ℕ → Wheel → Wheel) where
   unfolding changed
   chassis-changed i t s l = chassis-stays t i _ s l
 
-  wheel-changed : (i : ℕ) (t : List Float) → length t ≡ at.SIZE → i < at.WHEELS → wheelAt (changed g i t) i ≡ g i (wheelAt t i)
+  pub wheel-changed : (i : ℕ) (t : List Float) → length t ≡ at.SIZE → i < at.WHEELS → wheelAt (changed g i t) i ≡ g i (wheelAt t i)
   unfolding changed
   wheel-changed i t s l = wheel-put t i _ s l
 
-  wheel-unchanged : (i j : ℕ) (t : List Float) → (j ≡ i → ⊥) → length t ≡ at.SIZE → i < at.WHEELS → wheelAt (changed g i t) j ≡ wheelAt t j
+  pub wheel-unchanged : (i j : ℕ) (t : List Float) → (j ≡ i → ⊥) → length t ≡ at.SIZE → i < at.WHEELS → wheelAt (changed g i t) j ≡ wheelAt t j
   unfolding changed
   wheel-unchanged i j t ne s l = wheel-other t i j _ ne s l
 

@@ -1,2 +1,4 @@
 pub mod Frame
 pub mod Passes
+pub mod OneWheel
+pub mod Directed

@@ -7,16 +7,7 @@ ghost use Prim.Native.Nat.{ℕ, _+_, _*_, _<_, _≤_};
 ghost use lib.ListN.{length};
 ghost use Rattle.table.specs.Layout as at;
 ghost use Rattle.wheel.specs.Ray.{namedOf};
-ghost use Rattle.passes.specs.Frame.{answerAt, groundedAt, groundedWheels, groundNamed, groundAt};
-
-// Whether the ray of wheel i met something.
-pub fn is_grounded(answers: [RayAnswer; 16], i: usize) -> bool
-    requires { ⌜ i < at.WHEELS ⌝ }
-    ensures { λ r. ⌜ r ≡ groundedAt answers i ⌝ }
-{
-    let a = answers[i];
-    wheel::ray::is_grounded(a)
-}
+ghost use Rattle.passes.specs.Frame.{groundedWheels, groundNamed};
 
 // How many of the first n wheels are grounded.
 pub fn count_grounded(answers: [RayAnswer; 16], n: usize) -> u8
@@ -26,7 +17,8 @@ pub fn count_grounded(answers: [RayAnswer; 16], n: usize) -> u8
     let mut grounded: u8 = 0;
     let mut i = 0usize;
     while i < n {
-        let counted: u8 = if is_grounded(answers, i) { 1 } else { 0 };
+        let a = answers[i];
+        let counted: u8 = if wheel::ray::is_grounded(a) { 1 } else { 0 };
         grounded += counted;
         i += 1usize;
     }
@@ -59,13 +51,4 @@ pub fn ground_named(bodies: &[f32], dynamic: &[bool], n: u32) -> Ground
             dynamic: dynamic[i],
         })
     }
-}
-
-// The ground under wheel i.
-pub fn ground_at(bodies: &[f32], dynamic: &[bool], answers: [RayAnswer; 16], i: usize) -> Ground
-    requires { ⌜ (i < at.WHEELS) × (namedOf (answerAt answers i) ≤ length (now dynamic)) × (length (now dynamic) ≤ at.BODIES) × (length (now bodies) ≡ length (now dynamic) * at.BODY) ⌝ }
-    ensures { λ r. ⌜ r ≡ groundAt (now (bodies .entry)) (now (dynamic .entry)) answers i ⌝ }
-{
-    let a = answers[i];
-    ground_named(bodies, dynamic, named(a))
 }

@@ -1,5 +1,4 @@
 -- The laws that proofs over the records cite.
 pub mod Each
 pub mod Field
-pub mod Row
 pub mod Gathers

@@ -10,9 +10,9 @@ ghost use Prim.Native.Nat.{_<_, _≤_};
 ghost use mathlib.Core.List.{map};
 ghost use lib.ListN.{length};
 ghost use lib.Ieee.{binary32};
-ghost use Rattle.wheel.specs.Step.{rescaledOf, frictionIn, withFriction};
+ghost use Rattle.wheel.specs.Step.{rescaledOf, frictionIn};
 ghost use Rattle.table.specs.Layout as at;
-ghost use Rattle.table.specs.Rows.{wheelOf, wheelAt, rowOf, putWheel};
+ghost use Rattle.table.specs.Rows.{wheelOf, wheelAt};
 ghost use Rattle.passes.specs.Passes.{rescales};
 ghost use Rattle.slides.specs.Slides.{gathered, rescaledFirst, scattered};
 
@@ -54,16 +54,6 @@ fn read_slide(row: &[f32]) -> Friction
     }
 }
 
-// The row with another record.
-fn write_slide(row: &mut [f32], s: Friction)
-    requires { ⌜ length (now row) ≡ at.ROW ⌝ }
-    ensures { λ _. ⌜ now (row .exit) ≡ rowOf (withFriction (wheelOf (now (row .entry))) s) ⌝ }
-{
-    row[FORWARD_IMPULSE] = s.forward;
-    row[SIDE_IMPULSE] = s.side;
-    row[SKID] = s.skid;
-}
-
 // The record of wheel i.
 fn get_slide(table: &[f32], i: usize) -> Friction
     requires { ⌜ (length (now table) ≡ at.SIZE) × (i < at.WHEELS) ⌝ }
@@ -72,16 +62,6 @@ fn get_slide(table: &[f32], i: usize) -> Friction
     let a = KEPT + i * ROW;
     let e = a + ROW;
     read_slide(&table[a..e])
-}
-
-// The table with another record of wheel i: its row is lent on as a part of the table.
-fn put_slide(table: &mut [f32], i: usize, s: Friction)
-    requires { ⌜ (length (now table) ≡ at.SIZE) × (i < at.WHEELS) ⌝ }
-    ensures { λ _. ⌜ now (table .exit) ≡ putWheel (now (table .entry)) i (withFriction (wheelAt (now (table .entry)) i) s) ⌝ }
-{
-    let a = KEPT + i * ROW;
-    let e = a + ROW;
-    write_slide(&mut table[a..e], s);
 }
 
 // The records of the first n wheels; those of a wheel in the air after them.
@@ -111,7 +91,7 @@ fn scatter(table: &mut [f32], n: usize, slides: [Friction; 16])
     let mut i = 0usize;
     while i < n {
         let s = slides[i];
-        put_slide(table, i, s);
+        table::rows::put_friction(table, i, s);
         i += 1usize;
     }
 }

@@ -1,3 +1,4 @@
 -- The laws that proofs over the table cite.
 pub mod Laws
 pub mod Within
+pub mod Writes

@@ -13,20 +13,19 @@ pub const HANDED: f32 = 1048576.0;
 // 2^40, for a number that is stored.
 pub const STORED: f32 = 1099511627776.0;
 
-// Whether each number of s is finite and at most `most` in magnitude.
+// Whether each number of s is finite and at most `most` in magnitude. Every number is looked at: with no way out of its middle the loop
+// takes several at once.
 pub fn all_within(most: f32, s: &[f32]) -> bool
     ensures { λ r. ⌜ r ≡ allWithin most (now (s .entry)) ⌝ }
 {
+    let mut ok = true;
     let mut i = 0usize;
     while i < s.len() {
         let x = s[i];
-        if real::is_within(most, x) {
-            i += 1usize;
-        } else {
-            return false;
-        }
+        ok = ok & real::is_within(most, x);
+        i += 1usize;
     }
-    true
+    ok
 }
 
 // Whether the kept chassis and the first n rows hold numbers that may be stored.

@@ -8,6 +8,7 @@ use vector::Rotation;
 use vector::Vector;
 use wheel::Approach;
 use wheel::Controls;
+use wheel::Friction;
 use wheel::Motion;
 use wheel::Place;
 use wheel::RayCastInfo;
@@ -16,7 +17,9 @@ use wheel::Wheel;
 ghost use mathlib.Core.Path.{_≡_};
 ghost use Prim.Native.Nat.{ℕ, _+_, _*_, _<_, _≤_};
 ghost use lib.ListN.{length};
+ghost use Rattle.wheel.specs.Step.{withFriction};
 ghost use Rattle.table.specs.Layout as at;
+ghost use Rattle.table.specs.Writes.{withInfo, withApproach, withForce, withTurn};
 ghost use Rattle.table.specs.Rows.{vectorAt, rotationAt, inertiaAt, infoOf, placeOf, settingsOf, controlsOf, approachIn, motionOf, wheelOf, rowOf, wheelAt, putWheel, chassisOf, chassisList, chassisAt, putChassis, bodyOf, bodyAt};
 
 // Copies src over dst.
@@ -29,6 +32,20 @@ pub fn copy(dst: &mut [f32], src: &[f32])
         dst[i] = src[i];
         i += 1usize;
     }
+}
+
+// The numbers of a table, by value. The count is a constant, so that the compiler sees that no zero is left.
+pub fn copied(table: &[f32]) -> [f32; SIZE]
+    requires { ⌜ length (now table) ≡ at.SIZE ⌝ }
+    ensures { λ r. ⌜ r ≡ now (table .entry) ⌝ }
+{
+    let mut all = [0.0; SIZE];
+    let mut i = 0usize;
+    while i < SIZE {
+        all[i] = table[i];
+        i += 1usize;
+    }
+    all
 }
 
 pub fn vector_at(l: &[f32], a: usize) -> Vector
@@ -230,6 +247,71 @@ pub fn write_row(row: &mut [f32], w: Wheel)
     copy(row, &numbers);
 }
 
+// The row with other ray info.
+pub fn write_info(row: &mut [f32], info: RayCastInfo)
+    requires { ⌜ length (now row) ≡ at.ROW ⌝ }
+    ensures { λ _. ⌜ now (row .exit) ≡ rowOf (withInfo (wheelOf (now (row .entry))) info) ⌝ }
+{
+    let numbers = [
+        info.normal.x,
+        info.normal.y,
+        info.normal.z,
+        info.point.x,
+        info.point.y,
+        info.point.z,
+        info.length,
+        info.hard.x,
+        info.hard.y,
+        info.hard.z,
+    ];
+    copy(&mut row[NORMAL..CENTRE], &numbers);
+}
+
+// The row with another approach.
+pub fn write_approach(row: &mut [f32], a: Approach)
+    requires { ⌜ length (now row) ≡ at.ROW ⌝ }
+    ensures { λ _. ⌜ now (row .exit) ≡ rowOf (withApproach (wheelOf (now (row .entry))) a) ⌝ }
+{
+    row[INVERSE] = a.inverse;
+    row[VELOCITY] = a.velocity;
+}
+
+// The row with another contact: what a cast changes.
+pub fn write_contact(row: &mut [f32], info: RayCastInfo, approach: Approach)
+    requires { ⌜ length (now row) ≡ at.ROW ⌝ }
+    ensures { λ _. ⌜ now (row .exit) ≡ rowOf (withApproach (withInfo (wheelOf (now (row .entry))) info) approach) ⌝ }
+{
+    write_info(row, info);
+    write_approach(row, approach);
+}
+
+// The row with another force of the suspension.
+pub fn write_force(row: &mut [f32], force: f32)
+    requires { ⌜ length (now row) ≡ at.ROW ⌝ }
+    ensures { λ _. ⌜ now (row .exit) ≡ rowOf (withForce (wheelOf (now (row .entry))) force) ⌝ }
+{
+    row[FORCE] = force;
+}
+
+// The row with other impulses and another skid.
+pub fn write_friction(row: &mut [f32], d: Friction)
+    requires { ⌜ length (now row) ≡ at.ROW ⌝ }
+    ensures { λ _. ⌜ now (row .exit) ≡ rowOf (withFriction (wheelOf (now (row .entry))) d) ⌝ }
+{
+    row[FORWARD_IMPULSE] = d.forward;
+    row[SIDE_IMPULSE] = d.side;
+    row[SKID] = d.skid;
+}
+
+// The row with another rotation and spin.
+pub fn write_turn(row: &mut [f32], rotation: f32, spin: f32)
+    requires { ⌜ length (now row) ≡ at.ROW ⌝ }
+    ensures { λ _. ⌜ now (row .exit) ≡ rowOf (withTurn (wheelOf (now (row .entry))) rotation spin) ⌝ }
+{
+    row[ROTATION] = rotation;
+    row[SPIN] = spin;
+}
+
 // Wheel i of the table.
 pub fn get_wheel(table: &[f32], i: usize) -> Wheel
     requires { ⌜ (length (now table) ≡ at.SIZE) × (i < at.WHEELS) ⌝ }
@@ -248,6 +330,46 @@ pub fn put_wheel(table: &mut [f32], i: usize, w: Wheel)
     let a = KEPT + i * ROW;
     let e = a + ROW;
     write_row(&mut table[a..e], w);
+}
+
+// The table with another contact of wheel i.
+pub fn put_contact(table: &mut [f32], i: usize, info: RayCastInfo, approach: Approach)
+    requires { ⌜ (length (now table) ≡ at.SIZE) × (i < at.WHEELS) ⌝ }
+    ensures { λ _. ⌜ now (table .exit) ≡ putWheel (now (table .entry)) i (withApproach (withInfo (wheelAt (now (table .entry)) i) info) approach) ⌝ }
+{
+    let a = KEPT + i * ROW;
+    let e = a + ROW;
+    write_contact(&mut table[a..e], info, approach);
+}
+
+// The table with another force of the suspension of wheel i.
+pub fn put_force(table: &mut [f32], i: usize, force: f32)
+    requires { ⌜ (length (now table) ≡ at.SIZE) × (i < at.WHEELS) ⌝ }
+    ensures { λ _. ⌜ now (table .exit) ≡ putWheel (now (table .entry)) i (withForce (wheelAt (now (table .entry)) i) force) ⌝ }
+{
+    let a = KEPT + i * ROW;
+    let e = a + ROW;
+    write_force(&mut table[a..e], force);
+}
+
+// The table with another impulses and skid of wheel i.
+pub fn put_friction(table: &mut [f32], i: usize, d: Friction)
+    requires { ⌜ (length (now table) ≡ at.SIZE) × (i < at.WHEELS) ⌝ }
+    ensures { λ _. ⌜ now (table .exit) ≡ putWheel (now (table .entry)) i (withFriction (wheelAt (now (table .entry)) i) d) ⌝ }
+{
+    let a = KEPT + i * ROW;
+    let e = a + ROW;
+    write_friction(&mut table[a..e], d);
+}
+
+// The table with another rotation and spin of wheel i.
+pub fn put_turn(table: &mut [f32], i: usize, rotation: f32, spin: f32)
+    requires { ⌜ (length (now table) ≡ at.SIZE) × (i < at.WHEELS) ⌝ }
+    ensures { λ _. ⌜ now (table .exit) ≡ putWheel (now (table .entry)) i (withTurn (wheelAt (now (table .entry)) i) rotation spin) ⌝ }
+{
+    let a = KEPT + i * ROW;
+    let e = a + ROW;
+    write_turn(&mut table[a..e], rotation, spin);
 }
 
 pub fn read_chassis(l: &[f32]) -> Chassis

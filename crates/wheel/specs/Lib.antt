@@ -3,4 +3,5 @@ pub mod Ray
 pub mod Demand
 pub mod Grip
 pub mod Step
+pub mod Directions
 pub mod Demand3

@@ -1,7 +1,7 @@
 // What the ground gives one tyre, on plain numbers: document 01, rule 8, with the brake's clamp and the grip limit.
 ghost use mathlib.Core.Path.{_≡_};
 ghost use lib.Ieee.{binary32};
-ghost use Rattle.wheel.specs.Grip.{loadOf, slides, skidOf, rescaledBy, brakedOf, limitOf};
+ghost use Rattle.wheel.specs.Grip.{loadOf, skidOf, brakedOf, limitOf};
 
 // The left side of the slide test.
 pub fn load(forward: f32, side: f32) -> f32
@@ -21,13 +21,6 @@ pub fn skid_info(forward: f32, side: f32, limit: f32) -> f32
     } else {
         1.0
     }
-}
-
-// An impulse after the rescale.
-pub fn rescaled(skid: f32, impulse: f32) -> f32
-    ensures { λ r. ⌜ r ≡ rescaledBy binary32 skid impulse ⌝ }
-{
-    if skid < 1.0 { impulse * skid } else { impulse }
 }
 
 // The brake's clamp: no more than the brake, either way.

@@ -92,3 +92,9 @@ pub struct Friction {
     pub side: f32,
     pub skid: f32,
 }
+
+// A wheel's axis on the contact plane, and its rolling direction there.
+pub struct Directions {
+    pub axis: Vector,
+    pub forward: Vector,
+}

@@ -1,4 +1,5 @@
 // One wheel of a drive: document 01, rules 6 to 10, in the source's order.
+use super::Directions;
 use super::Friction;
 use super::Ground;
 use super::Wheel;
@@ -10,7 +11,8 @@ use body::Chassis;
 use vector::Vector;
 ghost use mathlib.Core.Path.{_≡_};
 ghost use lib.Ieee.{binary32};
-ghost use Rattle.wheel.specs.Step.{contactForce, wheelForce, suspendedOf, springOf, wheelLimit, wheelAxis, wheelForward, sideDemand, rollingDemand, skidding, frictionOf, rescaledOf, withFriction, frictionIn, sidePoint, pushedOf, contactSpin, turnedBy, spunOf};
+ghost use Rattle.wheel.specs.Directions.{directionsOf};
+ghost use Rattle.wheel.specs.Step.{contactForce, wheelForce, springOf, wheelLimit, wheelAxis, wheelForward, sideDemand, rollingDemand, skidding, frictionOf, sidePoint, pushedOf, contactSpin, turnedBy, spunOf};
 
 // Rule 6: the force of the wheel's spring in contact.
 pub fn contact_force(w: Wheel, invmass: f32) -> f32
@@ -41,18 +43,6 @@ pub fn wheel_force(w: Wheel, invmass: f32, grounds: bool) -> f32
     }
 }
 
-// Rule 6: the wheel with its suspension's force.
-pub fn update_suspension(w: Wheel, invmass: f32, grounds: bool) -> Wheel
-    ensures { λ r. ⌜ r ≡ suspendedOf binary32 invmass grounds w ⌝ }
-{
-    let force = wheel_force(w, invmass, grounds);
-    let mut m = w.motion;
-    m.force = force;
-    let mut r = w;
-    r.motion = m;
-    r
-}
-
 // Rule 6: the chassis after the wheel's spring.
 pub fn apply_suspension(chassis: Chassis, w: Wheel, dt: f32) -> Chassis
     ensures { λ r. ⌜ r ≡ springOf binary32 dt w chassis ⌝ }
@@ -70,44 +60,37 @@ pub fn wheel_limit(w: Wheel, dt: f32) -> f32
     grip::grip_limit(w.motion.force, dt, w.settings.slip)
 }
 
-// Rule 7: the wheel's axis on the contact plane.
-pub fn wheel_axis(w: Wheel) -> Vector
-    ensures { λ r. ⌜ r ≡ wheelAxis binary32 w ⌝ }
+// Rule 7: the wheel's axis on the contact plane, and its rolling direction.
+pub fn directions(w: Wheel) -> Directions
+    ensures { λ r. ⌜ r ≡ directionsOf binary32 w ⌝ }
 {
-    demand::contact_axis(w.place.axle, w.info.normal)
+    let normal = w.info.normal;
+    let axis = demand::contact_axis(w.place.axle, normal);
+    let forward = demand::contact_forward(normal, axis);
+    Directions { axis, forward }
 }
 
-// Rule 7: the wheel's rolling direction.
-pub fn wheel_forward(w: Wheel) -> Vector
-    ensures { λ r. ⌜ r ≡ wheelForward binary32 w ⌝ }
-{
-    demand::contact_forward(w.info.normal, wheel_axis(w))
-}
-
-// Rule 7: the side demand of a grounded wheel.
-pub fn side_demand(w: Wheel, chassis: Body, ground: Ground) -> f32
+// Rule 7: the side demand of a grounded wheel with this axis.
+pub fn side_demand(w: Wheel, axis: Vector, chassis: Body, ground: Ground) -> f32
+    requires { ⌜ axis ≡ wheelAxis binary32 w ⌝ }
     ensures { λ r. ⌜ r ≡ sideDemand binary32 chassis ground w ⌝ }
 {
-    demand::resolve_single(
-        chassis,
-        ground,
-        w.info.point,
-        wheel_axis(w),
-        w.settings.side,
-    )
+    demand::resolve_single(chassis, ground, w.info.point, axis, w.settings.side)
 }
 
-// Rule 7: the rolling demand of a grounded wheel.
-pub fn rolling_demand(w: Wheel, dt: f32, chassis: Body, ground: Ground, grounded: u8) -> f32
+// Rule 7: the rolling demand of a grounded wheel with this rolling direction.
+pub fn rolling_demand(
+    w: Wheel,
+    forward: Vector,
+    dt: f32,
+    chassis: Body,
+    ground: Ground,
+    grounded: u8,
+) -> f32
+    requires { ⌜ forward ≡ wheelForward binary32 w ⌝ }
     ensures { λ r. ⌜ r ≡ rollingDemand binary32 dt chassis ground grounded w ⌝ }
 {
-    let uncut = demand::calc_rolling_friction(
-        chassis,
-        ground,
-        grounded,
-        w.info.point,
-        wheel_forward(w),
-    );
+    let uncut = demand::calc_rolling_friction(chassis, ground, grounded, w.info.point, forward);
     demand::rolling(dt, w.controls.engine, w.controls.brake, uncut)
 }
 
@@ -125,17 +108,19 @@ pub fn with_skid(forward: f32, side: f32, limit: f32) -> Friction
 // Rules 7 and 8: the wheel's demands and skid before the rescale.
 pub fn friction(
     w: Wheel,
+    d: Directions,
     dt: f32,
     chassis: Body,
     grounds: bool,
     ground: Ground,
     grounded: u8,
 ) -> Friction
+    requires { ⌜ d ≡ directionsOf binary32 w ⌝ }
     ensures { λ r. ⌜ r ≡ frictionOf binary32 dt chassis grounds ground grounded w ⌝ }
 {
     if grounds {
-        let forward = rolling_demand(w, dt, chassis, ground, grounded);
-        let side = side_demand(w, chassis, ground);
+        let forward = rolling_demand(w, d.forward, dt, chassis, ground, grounded);
+        let side = side_demand(w, d.axis, chassis, ground);
         with_skid(forward, side, wheel_limit(w, dt))
     } else {
         Friction {
@@ -144,42 +129,6 @@ pub fn friction(
             skid: 1.0,
         }
     }
-}
-
-// Rule 8: the rescale of one wheel.
-pub fn rescale(d: Friction) -> Friction
-    ensures { λ r. ⌜ r ≡ rescaledOf binary32 d ⌝ }
-{
-    Friction {
-        forward: grip::rescaled(d.skid, d.forward),
-        side: grip::rescaled(d.skid, d.side),
-        skid: d.skid,
-    }
-}
-
-// The impulses and the skid that a wheel has.
-pub fn friction_in(w: Wheel) -> Friction
-    ensures { λ r. ⌜ r ≡ frictionIn w ⌝ }
-{
-    let m = w.motion;
-    Friction {
-        forward: m.forward,
-        side: m.side,
-        skid: m.skid,
-    }
-}
-
-// The wheel with these impulses and this skid.
-pub fn with_friction(w: Wheel, d: Friction) -> Wheel
-    ensures { λ r. ⌜ r ≡ withFriction w d ⌝ }
-{
-    let mut m = w.motion;
-    m.forward = d.forward;
-    m.side = d.side;
-    m.skid = d.skid;
-    let mut r = w;
-    r.motion = m;
-    r
 }
 
 // Rule 9: where the side impulse is applied.
@@ -191,18 +140,15 @@ pub fn side_point(up: Vector, point: Vector, centre: Vector) -> Vector
 }
 
 // Rule 9: the chassis after the wheel's two impulses.
-pub fn apply_friction(chassis: Chassis, w: Wheel, up: Vector) -> Chassis
+pub fn apply_friction(chassis: Chassis, w: Wheel, d: Directions, up: Vector) -> Chassis
+    requires { ⌜ d ≡ directionsOf binary32 w ⌝ }
     ensures { λ r. ⌜ r ≡ pushedOf binary32 up w chassis ⌝ }
 {
     let m = w.motion;
     let point = w.info.point;
-    let rolled = body::apply_impulse_at_point(
-        chassis,
-        vector::scale(wheel_forward(w), m.forward),
-        point,
-    );
+    let rolled = body::apply_impulse_at_point(chassis, vector::scale(d.forward, m.forward), point);
     let lifted = side_point(up, point, chassis.body.centre);
-    body::apply_impulse_at_point(rolled, vector::scale(wheel_axis(w), m.side), lifted)
+    body::apply_impulse_at_point(rolled, vector::scale(d.axis, m.side), lifted)
 }
 
 // Rule 10: the spin of a wheel in contact.

@@ -18,7 +18,7 @@ loop-again : tie.Need-loop-again Inv-loop μ-loop
 unfolding slideOver
 loop-again c =
     let turn = c .before .before in
-    passing-again _ _ _ _ _ _ (turn .before .before .before .before .loop .inv) (omega arith) (omega arith) (changed-of-put _ _ _ _ _ _ refl refl (turn .put-slide .ensures))
+    passing-again _ _ _ _ _ _ (turn .before .before .before .before .loop .inv) (omega arith) (omega arith) (changed-of-put _ _ _ _ _ _ refl refl (turn .put-friction .ensures))
 
 returns : tie.Need-returns Inv-loop μ-loop
 unfolding scattered

@@ -1,5 +1,6 @@
 -- `drive::step::finish_step` meets its contract: each pass takes what the one before it left. Assumes nothing.
 use mathlib.Core.Path.{_∙_}
+use Rattle.passes.proofs.Directed.{directed-rescales}
 use Rattle.drive.proofs.Steps.{finish-step-of-passes}
 use Rattle.drive.proofs.step.finish_step.Statement.{statement}
 use Rattle.drive.proofs.step.finish_step.Tie as tie
@@ -7,7 +8,8 @@ use Rattle.drive.proofs.step.finish_step.Tie as tie
 push-pass-requires : tie.Need-push-pass-requires
 push-pass-requires c κs =
     let p = c .before .before .before .before .before .before .before .before .before .pre in
-    (c .before .before .before .before .before .before .rescale-pass .kept .0 ∙ p .0, p .1)
+    let scaled = c .before .before .before .before .before .before .rescale-pass in
+    (scaled .kept .0 ∙ p .0, p .1, directed-rescales _ _ _ _ _ (p .0) (p .1) (p .2) (scaled .ensures))
 
 spin-pass-requires : tie.Need-spin-pass-requires
 spin-pass-requires c κs =

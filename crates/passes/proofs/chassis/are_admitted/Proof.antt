@@ -8,6 +8,7 @@ use lib.Ieee.{binary32}
 use Rattle.lists.specs.Counted.{every}
 use Rattle.lists.proofs.Picks.{told}
 use Rattle.lists.proofs.Turns.{every-yes, every-no, every-end}
+use Rattle.passes.specs.Frame.{groundedAt}
 use Rattle.passes.specs.Passes.{admittedAt, demandsAdmitted}
 use Rattle.passes.proofs.chassis.are_admitted.Statement.{statement}
 use Rattle.passes.proofs.chassis.are_admitted.Tie as tie
@@ -23,14 +24,18 @@ unfolding demandsAdmitted
 loop-holds c = (search needs, rw sub-zero)
 
 loop-again : tie.Need-loop-again Inv-loop μ-loop
+unfolding admittedAt groundedAt
 loop-again c =
-    let l = c .before .before .before .loop in
-    (omega arith, l .inv .1 ∙ every-yes _ _ (l .i) (omega arith) (told _ _ _ (c .before .is-admitted-at .ensures) (c .if1 .taken)))
+    let l = c .before .before .before .before .before .loop in
+    let e = rw (c .before .before .is-grounded .ensures) at (c .before .is-admitted-at .ensures) in
+    (omega arith, l .inv .1 ∙ every-yes _ _ (l .i) (omega arith) (told _ _ _ e (c .if1 .taken)))
 
 returns : tie.Need-returns Inv-loop μ-loop
+unfolding admittedAt groundedAt
 returns c =
-    let l = c .before .before .before .loop in
-    sym (l .inv .1 ∙ every-no _ _ (l .i) (omega arith) (told _ _ _ (c .before .is-admitted-at .ensures) (c .if1 .left)))
+    let l = c .before .before .before .before .before .loop in
+    let e = rw (c .before .before .is-grounded .ensures) at (c .before .is-admitted-at .ensures) in
+    sym (l .inv .1 ∙ every-no _ _ (l .i) (omega arith) (told _ _ _ e (c .if1 .left)))
 
 returns-2 : tie.Need-returns-2 Inv-loop μ-loop
 returns-2 c =
@@ -38,4 +43,4 @@ returns-2 c =
     sym (l .inv .1 ∙ every-end _ _ (l .i) (omega arith))
 
 pub are-admitted-spec : {M : Type 1} → statement M
-are-admitted-spec = tie.close (tie.spec Inv-loop μ-loop loop-holds (λ c κs. search needs) (λ c. search needs) (λ c. search needs) loop-again returns returns-2)
+are-admitted-spec = tie.close (tie.spec Inv-loop μ-loop loop-holds (λ c. search needs) (λ c. search needs) (λ c κs. search needs) (λ c κs. search needs) (λ c. search needs) (λ c. search needs) loop-again returns returns-2)

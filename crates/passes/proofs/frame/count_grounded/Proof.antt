@@ -13,10 +13,10 @@ use Rattle.passes.proofs.frame.count_grounded.Statement.{statement}
 use Rattle.passes.proofs.frame.count_grounded.Tie as tie
 
 abbrev Inv-loop : tie.InvT-loop
-Inv-loop answers n grounded₀ i₀ grounded i = (i ≤ n) × (grounded ≤ i) × (grounded + tally (groundedAt answers) (n - i) i ≡ groundedWheels answers n)
+Inv-loop n answers grounded₀ i₀ grounded i = (i ≤ n) × (grounded ≤ i) × (grounded + tally (groundedAt answers) (n - i) i ≡ groundedWheels answers n)
 
 abbrev μ-loop : tie.MeasureT-loop
-μ-loop answers n grounded₀ i₀ grounded i = n - i
+μ-loop n answers grounded₀ i₀ grounded i = n - i
 
 loop-holds : tie.Need-loop-holds Inv-loop μ-loop
 unfolding groundedWheels
@@ -26,9 +26,10 @@ add-grounded : tie.Need-add-grounded Inv-loop μ-loop
 add-grounded c = ⊎-elim (λ w. search needs) (λ w. search needs) (c .before .if1 .came)
 
 loop-again : tie.Need-loop-again Inv-loop μ-loop
+unfolding groundedAt
 loop-again c =
     let ask = c .before .before in
-    let l = ask .before .before .loop in
+    let l = ask .before .before .before .loop in
     let e = ask .is-grounded .ensures in
     let counted = c .before .if1 .counted in
     ⊎-elim
@@ -44,4 +45,4 @@ returns : tie.Need-returns Inv-loop μ-loop
 returns c = tally-end _ _ _ _ _ (omega arith) (c .before .loop .inv .2)
 
 pub count-grounded-spec : {M : Type 1} → statement M
-count-grounded-spec = tie.close (tie.spec Inv-loop μ-loop loop-holds (λ c κs. search needs) add-grounded (λ c. search needs) (λ c. search needs) loop-again returns)
+count-grounded-spec = tie.close (tie.spec Inv-loop μ-loop loop-holds (λ c. search needs) (λ c. search needs) (λ c κs. search needs) add-grounded (λ c. search needs) (λ c. search needs) loop-again returns)

@@ -3,7 +3,7 @@ use borrow.Author.Needs.{needs}
 use Prim.Native.Nat.{_-_}
 use native.Mathlib.Omega.{arith}
 use lib.Ieee.{binary32}
-use Rattle.passes.specs.Passes.{castAt, casts}
+use Rattle.passes.specs.Passes.{changed, castAt, casts}
 use Rattle.passes.proofs.Laws.{Passing, passing-start, passing-again, passing-done}
 use Rattle.passes.proofs.rows.cast_pass.Statement.{statement}
 use Rattle.passes.proofs.rows.cast_pass.Tie as tie
@@ -15,13 +15,12 @@ abbrev μ-loop : tie.MeasureT-loop
 μ-loop table₀ n chassis answers i₀ table i = n - i
 
 loop-again : tie.Need-loop-again Inv-loop μ-loop
-loop-again c =
-    let turn = c .before .before in
-    passing-again _ _ _ _ _ _ (turn .before .before .before .loop .inv) (omega arith) (omega arith) (turn .cast-wheel .ensures)
+unfolding changed castAt
+loop-again c = passing-again _ _ _ _ _ _ (c .before .before .before .before .before .before .loop .inv) (omega arith) (omega arith) (c .before .before .cast-wheel .ensures)
 
 returns : tie.Need-returns Inv-loop μ-loop
 unfolding casts
 returns c = passing-done _ _ _ _ _ (c .before .loop .inv) (omega arith)
 
 pub cast-pass-spec : {M : Type 1} → statement M
-cast-pass-spec = tie.close (tie.spec Inv-loop μ-loop (λ c. passing-start _ _ _ (search needs)) (λ c κs. search needs) (λ c. search needs) (λ c. search needs) loop-again (λ c. search needs) returns)
+cast-pass-spec = tie.close (tie.spec Inv-loop μ-loop (λ c. passing-start _ _ _ (search needs)) (λ c. search needs) (λ c. search needs) (λ c κs. search needs) (λ c. search needs) (λ c. search needs) loop-again (λ c. search needs) returns)

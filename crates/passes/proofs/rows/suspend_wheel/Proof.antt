@@ -1,17 +1,12 @@
--- `passes::rows::suspend_wheel` meets its contract: the wheel is read, changed and put. Assumes nothing.
+-- `passes::rows::suspend_wheel` meets its contract: the wheel is read, and what changes of it is put. Assumes nothing.
 use borrow.Author.Needs.{needs}
-use Rattle.passes.specs.Passes.{suspendAt}
-use Rattle.passes.proofs.Laws.{changed-of-put}
+use Rattle.passes.proofs.OneWheel.{force-put}
 use Rattle.passes.proofs.rows.suspend_wheel.Statement.{statement}
 use Rattle.passes.proofs.rows.suspend_wheel.Tie as tie
 
 returns : tie.Need-returns
-unfolding suspendAt
 returns c =
-    let put = c .before .before in
-    let change = put .before in
-    let ask = change .before .before in
-    changed-of-put _ _ _ _ _ _ (ask .before .get-wheel .ensures) (rw (← ask .is-grounded .ensures) (change .update-suspension .ensures)) (put .put-wheel .ensures)
+    force-put _ _ _ _ _ (c .before .before .before .before .before .get-wheel .ensures) _ _ _ (c .before .before .before .wheel-force .ensures) (c .before .before .put-force .ensures)
 
 pub suspend-wheel-spec : {M : Type 1} → statement M
-suspend-wheel-spec = tie.close (tie.spec (λ c κs. search needs) (λ c κs. search needs) (λ c κs. search needs) (λ c κs. search needs) (λ c. search needs) returns)
+suspend-wheel-spec = tie.close (tie.spec (λ c κs. search needs) (λ c κs. search needs) (λ c κs. search needs) (λ c. search needs) returns)

@@ -3,7 +3,8 @@ use borrow.Author.Needs.{needs}
 use Prim.Native.Nat.{_-_}
 use native.Mathlib.Omega.{arith}
 use lib.Ieee.{binary32}
-use Rattle.passes.specs.Passes.{suspendAt, suspensions}
+use Rattle.passes.specs.Frame.{groundedAt}
+use Rattle.passes.specs.Passes.{changed, suspendAt, suspensions}
 use Rattle.passes.proofs.Laws.{Passing, passing-start, passing-again, passing-done}
 use Rattle.passes.proofs.rows.suspension_pass.Statement.{statement}
 use Rattle.passes.proofs.rows.suspension_pass.Tie as tie
@@ -15,13 +16,12 @@ abbrev μ-loop : tie.MeasureT-loop
 μ-loop table₀ n invmass answers i₀ table i = n - i
 
 loop-again : tie.Need-loop-again Inv-loop μ-loop
-loop-again c =
-    let turn = c .before .before in
-    passing-again _ _ _ _ _ _ (turn .before .before .before .loop .inv) (omega arith) (omega arith) (turn .suspend-wheel .ensures)
+unfolding changed suspendAt groundedAt
+loop-again c = passing-again _ _ _ _ _ _ (c .before .before .before .before .before .before .before .loop .inv) (omega arith) (omega arith) (rw (c .before .before .before .is-grounded .ensures) at (c .before .before .suspend-wheel .ensures))
 
 returns : tie.Need-returns Inv-loop μ-loop
 unfolding suspensions
 returns c = passing-done _ _ _ _ _ (c .before .loop .inv) (omega arith)
 
 pub suspension-pass-spec : {M : Type 1} → statement M
-suspension-pass-spec = tie.close (tie.spec Inv-loop μ-loop (λ c. passing-start _ _ _ (search needs)) (λ c κs. search needs) (λ c. search needs) (λ c. search needs) loop-again (λ c. search needs) returns)
+suspension-pass-spec = tie.close (tie.spec Inv-loop μ-loop (λ c. passing-start _ _ _ (search needs)) (λ c. search needs) (λ c. search needs) (λ c κs. search needs) (λ c κs. search needs) (λ c. search needs) (λ c. search needs) loop-again (λ c. search needs) returns)

@@ -1,0 +1,77 @@
+-- Laws on a row in which some numbers are written. In order: a list by its elements; a row written is the row of the wheel written, in general; each group of numbers; a row of a table.
+-- Assumes nothing.
+use Prim.Native.Nat.{ℕ, suc, _+_, _-_}
+use mathlib.Core.List.{List, [], _∷_, _++_}
+use mathlib.Core.Path.{_≡_, refl, sym, ap, _∙_}
+use native.Mathlib.Omega.{arith}
+use lib.ListN.{length, getD, set, take, drop}
+use lib.Ieee.{Float, nan}
+use Rattle.lists.specs.Counted.{listed}
+use Rattle.lists.specs.Part.{part, paste}
+use Rattle.lists.proofs.Parts.{part-is, paste-is}
+use Rattle.wheel.specs.declared.Friction.{Friction}
+use Rattle.wheel.specs.declared.RayCastInfo.{RayCastInfo}
+use Rattle.wheel.specs.declared.Approach.{Approach}
+use Rattle.wheel.specs.declared.Wheel.{Wheel}
+use Rattle.wheel.specs.Step.{withFriction}
+use Rattle.table.specs.Layout as at
+use Rattle.table.specs.Rows.{vectorList, vectorAt, rotationAt, infoOf, placeOf, settingsOf, controlsOf, approachIn, motionOf, wheelOf, rowOf, rowStart, wheelAt, putWheel}
+use Rattle.table.specs.Writes.{withInfo, withApproach, withForce, withTurn}
+use Rattle.table.proofs.Laws.{length-row}
+
+-- ---- a list is the list of its elements
+module _ {A : Type 0} (d : A) where
+  listed-from : (l : List A) (f : ℕ → A) (i : ℕ) → ((j : ℕ) → f (i + j) ≡ getD l j d) → listed f (length l) i ≡ l
+  unfolding listed
+  listed-from [] f i h = refl
+  listed-from (x ∷ l) f i h =
+      let here : i ≡ i + 0 = omega arith in
+      ap (λ (y : A). y ∷ listed f (length l) (suc i)) (ap f here ∙ h 0)
+      ∙ ap (λ (r : List A). x ∷ r) (listed-from l f (suc i) (λ j. let there : suc i + j ≡ i + suc j = omega arith in ap f there ∙ h (suc j)))
+
+  pub listed-all : (l : List A) → l ≡ listed (λ i. getD l i d) (length l) 0
+  listed-all l = sym (listed-from l (λ i. getD l i d) 0 (λ j. let there : 0 + j ≡ j = omega arith in ap (λ (k : ℕ). getD l k d) there))
+
+-- ---- `over` writes into a row what `new` changes of a wheel, if it does so where the row is spelled out
+row-written : (over : List Float → List Float) (new : Wheel → Wheel) → ((g : ℕ → Float) → over (listed g at.ROW 0) ≡ rowOf (new (wheelOf (listed g at.ROW 0))))
+    → (r : List Float) → length r ≡ at.ROW → over r ≡ rowOf (new (wheelOf r))
+row-written over new h r n =
+    let all : r ≡ listed (λ i. getD r i nan) at.ROW 0 = listed-all nan r ∙ ap (λ (k : ℕ). listed (λ i. getD r i nan) k 0) n in
+    ap over all ∙ h (λ i. getD r i nan) ∙ ap (λ (l : List Float). rowOf (new (wheelOf l))) (sym all)
+
+-- ---- each group
+abbrev pub infoList : RayCastInfo → List Float
+infoList i = vectorList (i .normal) ++ vectorList (i .point) ++ (i .length ∷ []) ++ vectorList (i .hard)
+
+abbrev pub infoOver : RayCastInfo → List Float → List Float
+infoOver info r = take at.NORMAL r ++ (infoList info ++ drop (at.CENTRE - at.NORMAL) (drop at.NORMAL r))
+
+pub info-written : (info : RayCastInfo) (r : List Float) → length r ≡ at.ROW → infoOver info r ≡ rowOf (withInfo (wheelOf r) info)
+unfolding listed rowOf wheelOf infoOf placeOf settingsOf controlsOf approachIn motionOf vectorAt rotationAt
+info-written info r n = row-written (infoOver info) (λ w. withInfo w info) (λ g. refl) r n
+
+pub approach-written : (a : Approach) (r : List Float) → length r ≡ at.ROW → set (set r at.INVERSE (a .inverse)) at.VELOCITY (a .velocity) ≡ rowOf (withApproach (wheelOf r) a)
+unfolding listed rowOf wheelOf infoOf placeOf settingsOf controlsOf approachIn motionOf vectorAt rotationAt
+approach-written a r n = row-written (λ l. set (set l at.INVERSE (a .inverse)) at.VELOCITY (a .velocity)) (λ w. withApproach w a) (λ g. refl) r n
+
+pub force-written : (x : Float) (r : List Float) → length r ≡ at.ROW → set r at.FORCE x ≡ rowOf (withForce (wheelOf r) x)
+unfolding listed rowOf wheelOf infoOf placeOf settingsOf controlsOf approachIn motionOf vectorAt rotationAt
+force-written x r n = row-written (λ l. set l at.FORCE x) (λ w. withForce w x) (λ g. refl) r n
+
+abbrev pub frictionOver : Friction → List Float → List Float
+frictionOver d r = set (set (set r at.FORWARD-IMPULSE (d .forward)) at.SIDE-IMPULSE (d .side)) at.SKID (d .skid)
+
+pub friction-written : (d : Friction) (r : List Float) → length r ≡ at.ROW → frictionOver d r ≡ rowOf (withFriction (wheelOf r) d)
+unfolding listed rowOf wheelOf infoOf placeOf settingsOf controlsOf approachIn motionOf vectorAt rotationAt
+friction-written d r n = row-written (frictionOver d) (λ w. withFriction w d) (λ g. refl) r n
+
+pub turn-written : (x y : Float) (r : List Float) → length r ≡ at.ROW → set (set r at.ROTATION x) at.SPIN y ≡ rowOf (withTurn (wheelOf r) x y)
+unfolding listed rowOf wheelOf infoOf placeOf settingsOf controlsOf approachIn motionOf vectorAt rotationAt
+turn-written x y r n = row-written (λ l. set (set l at.ROTATION x) at.SPIN y) (λ w. withTurn w x y) (λ g. refl) r n
+
+-- ---- wheel i of a table, whose row came back written
+pub put-written : (new : Wheel → Wheel) (t ys : List Float) (i : ℕ) → ys ≡ rowOf (new (wheelOf (take ((rowStart i + at.ROW) - rowStart i) (drop (rowStart i) t))))
+    → take (rowStart i) t ++ (ys ++ drop ((rowStart i + at.ROW) - rowStart i) (drop (rowStart i) t)) ≡ putWheel t i (new (wheelAt t i))
+unfolding putWheel wheelAt
+put-written new t ys i e =
+    paste-is t ys _ (rowStart i) at.ROW (e ∙ ap (λ (r : List Float). rowOf (new (wheelOf r))) (part-is t (rowStart i) at.ROW)) (sym (length-row (new (wheelOf (part t (rowStart i) at.ROW)))))

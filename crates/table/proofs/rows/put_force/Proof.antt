@@ -1,0 +1,15 @@
+-- `table::rows::put_force` meets its contract: the lent row comes back written. Assumes nothing.
+use borrow.Author.Needs.{needs}
+use Rattle.table.specs.Writes.{withForce}
+use Rattle.table.proofs.Writes.{put-written}
+use Rattle.table.proofs.rows.put_force.Statement.{statement}
+use Rattle.table.proofs.rows.put_force.Tie as tie
+
+returns : tie.Need-returns
+returns c =
+    let a = c .before .before .before .before .before .args in
+    put-written (λ w. withForce w (a .force)) (a .table .now) _ (a .i) (c .before .before .write-force .ensures)
+
+pub put-force-spec : {M : Type 1} → statement M
+put-force-spec =
+    tie.close (tie.spec (λ c. search needs) (λ c. search needs) (λ c. search needs) (λ c. search needs) (λ c. search needs) (λ c. search needs) (λ c. search needs) (λ c κs. search needs) (λ c. search needs) returns)
