@@ -11,6 +11,7 @@ use Rattle.vehicle.specs.Controls.{setControls}
 use Rattle.vehicle.specs.declared.Reading.{Reading}
 use Rattle.vehicle.specs.Read.{readWheel}
 use Rattle.table.specs.Layout as table
+use Rattle.table.specs.Handed as handed
 use Rattle.table.specs.Rows.{chassisOf}
 use Rattle.drive.specs.declared.Aimed.{Aimed}
 use Rattle.drive.specs.Aim.{aimOf}
@@ -23,10 +24,10 @@ use Rattle.exports.specs.Lists.{listTests, frameIn}
 use Rattle.exports.specs.Results.{readingList, aimedList, drivenList}
 
 unfoldable pub flatAdd : List Float → List ℕ → List Float → After ℕ
-flatAdd t m settings = settled (firstFailed (ofLength settings at.SETTINGS ∷ [])) (λ n. n) (addWheel t m (settingsIn settings)) t m
+flatAdd t m settings = settled (firstFailed (ofLength settings handed.SETTINGS ∷ [])) (λ n. n) (addWheel t m (settingsIn settings)) t m
 
 unfoldable pub flatControls : Format → List Float → List ℕ → ℕ → List Float → After ℕ
-flatControls f t m wheel controls = settled (firstFailed (ofLength controls at.CONTROLS ∷ [])) (λ n. n) (setControls f t m wheel (controlsIn controls)) t m
+flatControls f t m wheel controls = settled (firstFailed (ofLength controls handed.CONTROLS ∷ [])) (λ n. n) (setControls f t m wheel (controlsIn controls)) t m
 
 unfoldable pub flatRead : List Float → List ℕ → ℕ → List Float → After Flat
 flatRead t m wheel results =

@@ -7,22 +7,22 @@ use Rattle.table.specs.Rows.{numberAt, vectorAt, rotationAt}
 use Rattle.vehicle.specs.declared.WheelTuning.{WheelTuning}
 use Rattle.vehicle.specs.Add.{settingsFrom}
 use Rattle.vehicle.specs.Controls.{controlsFrom}
-use Rattle.exports.specs.Layout as at
+use Rattle.table.specs.Handed as handed
 
 unfoldable pub tuningIn : List Float → WheelTuning
 tuningIn l = record {
-  stiffness = numberAt l at.STIFFNESS;
-  compression = numberAt l at.COMPRESSION;
-  damping = numberAt l at.DAMPING;
-  travel = numberAt l at.TRAVEL;
-  side = numberAt l at.SIDE;
-  slip = numberAt l at.SLIP;
-  most = numberAt l at.MOST;
+  stiffness = numberAt l handed.STIFFNESS;
+  compression = numberAt l handed.COMPRESSION;
+  damping = numberAt l handed.DAMPING;
+  travel = numberAt l handed.TRAVEL;
+  side = numberAt l handed.SIDE;
+  slip = numberAt l handed.SLIP;
+  most = numberAt l handed.MOST;
 }
 
 unfoldable pub settingsIn : List Float → Settings
 settingsIn l =
-    settingsFrom (vectorAt l at.CONNECTION) (vectorAt l at.DIRECTION) (vectorAt l at.AXLE) (numberAt l at.REST) (numberAt l at.RADIUS) (tuningIn l)
+    settingsFrom (vectorAt l handed.CONNECTION) (vectorAt l handed.DIRECTION) (vectorAt l handed.AXLE) (numberAt l handed.REST) (numberAt l handed.RADIUS) (tuningIn l)
 
 unfoldable pub controlsIn : List Float → Controls
-controlsIn l = controlsFrom (numberAt l at.ENGINE) (numberAt l at.BRAKE) (rotationAt l at.STEERING)
+controlsIn l = controlsFrom (numberAt l handed.ENGINE) (numberAt l handed.BRAKE) (rotationAt l handed.STEERING)

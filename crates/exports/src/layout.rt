@@ -1,42 +1,6 @@
-// The flat lists that a host hands to the calls, and those that a call writes: each place is counted from the one before it. A chassis and a
-// ground body are laid out as in crate `table`.
+// The flat lists that a host hands to the calls, and those that a call writes: each place is counted from the one before it. A chassis, a
+// ground body, settings and controls are laid out as in crate `table`.
 use table::layout::WHEELS;
-
-// The settings of a wheel.
-pub const CONNECTION: usize = 0;
-
-pub const DIRECTION: usize = CONNECTION + 3;
-
-pub const AXLE: usize = DIRECTION + 3;
-
-pub const REST: usize = AXLE + 3;
-
-pub const RADIUS: usize = REST + 1;
-
-pub const STIFFNESS: usize = RADIUS + 1;
-
-pub const COMPRESSION: usize = STIFFNESS + 1;
-
-pub const DAMPING: usize = COMPRESSION + 1;
-
-pub const TRAVEL: usize = DAMPING + 1;
-
-pub const SIDE: usize = TRAVEL + 1;
-
-pub const SLIP: usize = SIDE + 1;
-
-pub const MOST: usize = SLIP + 1;
-
-pub const SETTINGS: usize = MOST + 1;
-
-// The controls of a wheel.
-pub const ENGINE: usize = 0;
-
-pub const BRAKE: usize = ENGINE + 1;
-
-pub const STEERING: usize = BRAKE + 1;
-
-pub const CONTROLS: usize = STEERING + 4;
 
 // What a wheel's ray met.
 pub const TIME: usize = 0;

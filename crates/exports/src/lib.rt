@@ -2,6 +2,7 @@
 // numbers and flat lists; a list is a pointer and a length. Each is total on every length and every number, answers the refusal number of its
 // call, and refuses with 1, before all else, a list of settings, controls, chassis or results of the wrong length. Results are written only
 // where the answer is 0.
+use table::handed;
 use table::layout::BODY;
 use table::layout::KEPT;
 use table::layout::SIZE;
@@ -11,6 +12,7 @@ ghost use lib.Ieee.{binary32};
 ghost use Rattle.real.specs.Root.{rootOf};
 ghost use Rattle.refusals.specs.After.{after};
 ghost use Rattle.table.specs.Layout as lent;
+ghost use Rattle.table.specs.Handed as handed;
 ghost use Rattle.vehicle.specs.SetUp.{setUp};
 ghost use Rattle.exports.specs.Layout as at;
 ghost use Rattle.exports.specs.Ends.{flat};
@@ -45,14 +47,14 @@ pub extern "C" fn vehicle_set_up(table: &mut [f32], whole: &mut [u32], up: u32, 
 pub extern "C" fn vehicle_add_wheel(table: &mut [f32], whole: &mut [u32], settings: &[f32]) -> u32
     ensures { λ r. ⌜ after r (now (table .exit)) (now (whole .exit)) ≡ flatAdd (now (table .entry)) (now (whole .entry)) (now (settings .entry)) ⌝ }
 {
-    if settings.len() != layout::SETTINGS {
+    if settings.len() != handed::SETTINGS {
         return 1;
     }
-    let connection = table::rows::vector_at(settings, layout::CONNECTION);
-    let direction = table::rows::vector_at(settings, layout::DIRECTION);
-    let axle = table::rows::vector_at(settings, layout::AXLE);
-    let rest = settings[layout::REST];
-    let radius = settings[layout::RADIUS];
+    let connection = table::rows::vector_at(settings, handed::CONNECTION);
+    let direction = table::rows::vector_at(settings, handed::DIRECTION);
+    let axle = table::rows::vector_at(settings, handed::AXLE);
+    let rest = settings[handed::REST];
+    let radius = settings[handed::RADIUS];
     let tuning = decode::tuning_in(settings);
     vehicle::add::add_wheel(
         table,
@@ -77,12 +79,12 @@ pub extern "C" fn vehicle_set_controls(
 ) -> u32
     ensures { λ r. ⌜ after r (now (table .exit)) (now (whole .exit)) ≡ flatControls binary32 (now (table .entry)) (now (whole .entry)) wheel (now (controls .entry)) ⌝ }
 {
-    if controls.len() != layout::CONTROLS {
+    if controls.len() != handed::CONTROLS {
         return 1;
     }
-    let engine = controls[layout::ENGINE];
-    let brake = controls[layout::BRAKE];
-    let steering = table::rows::rotation_at(controls, layout::STEERING);
+    let engine = controls[handed::ENGINE];
+    let brake = controls[handed::BRAKE];
+    let steering = table::rows::rotation_at(controls, handed::STEERING);
     vehicle::controls::set_controls(table, whole, wheel, engine, brake, steering)
 }
 
@@ -180,17 +182,17 @@ pub extern "C" fn vehicle_whole_len() -> u32
 // How many numbers the settings of a wheel are.
 #[no_mangle]
 pub extern "C" fn vehicle_settings_len() -> u32
-    ensures { λ r. ⌜ r ≡ at.SETTINGS ⌝ }
+    ensures { λ r. ⌜ r ≡ handed.SETTINGS ⌝ }
 {
-    layout::SETTINGS as u32
+    handed::SETTINGS as u32
 }
 
 // How many numbers the controls of a wheel are.
 #[no_mangle]
 pub extern "C" fn vehicle_controls_len() -> u32
-    ensures { λ r. ⌜ r ≡ at.CONTROLS ⌝ }
+    ensures { λ r. ⌜ r ≡ handed.CONTROLS ⌝ }
 {
-    layout::CONTROLS as u32
+    handed::CONTROLS as u32
 }
 
 // How many numbers a chassis is.

@@ -1,6 +1,7 @@
 -- Where each field of a scenario code stands among its words: the field order of docs/STREAM.md. Word 0 is the code. Each place is a named constant, counted from the one before it. How many words a field has, and how many fields there are at most, the stream's layout says. Definitions only.
 use Prim.Native.Nat.{ℕ, _+_, _*_}
 use Rattle.table.specs.Layout as table
+use Rattle.table.specs.Handed as handed
 use Rattle.stream.specs.Layout as code
 
 -- ---- the first field
@@ -9,53 +10,53 @@ FIRST = 1
 
 -- ---- an add
 abbrev pub CONNECTION : ℕ
-CONNECTION = FIRST
+CONNECTION = FIRST + handed.CONNECTION
 
 abbrev pub DIRECTION : ℕ
-DIRECTION = CONNECTION + 3
+DIRECTION = FIRST + handed.DIRECTION
 
 abbrev pub AXLE : ℕ
-AXLE = DIRECTION + 3
+AXLE = FIRST + handed.AXLE
 
 abbrev pub REST : ℕ
-REST = AXLE + 3
+REST = FIRST + handed.REST
 
 abbrev pub RADIUS : ℕ
-RADIUS = REST + 1
+RADIUS = FIRST + handed.RADIUS
 
 abbrev pub STIFFNESS : ℕ
-STIFFNESS = RADIUS + 1
+STIFFNESS = FIRST + handed.STIFFNESS
 
 abbrev pub COMPRESSION : ℕ
-COMPRESSION = STIFFNESS + 1
+COMPRESSION = FIRST + handed.COMPRESSION
 
 abbrev pub DAMPING : ℕ
-DAMPING = COMPRESSION + 1
+DAMPING = FIRST + handed.DAMPING
 
 abbrev pub TRAVEL : ℕ
-TRAVEL = DAMPING + 1
+TRAVEL = FIRST + handed.TRAVEL
 
 abbrev pub SIDE : ℕ
-SIDE = TRAVEL + 1
+SIDE = FIRST + handed.SIDE
 
 abbrev pub SLIP : ℕ
-SLIP = SIDE + 1
+SLIP = FIRST + handed.SLIP
 
 abbrev pub MOST : ℕ
-MOST = SLIP + 1
+MOST = FIRST + handed.MOST
 
 -- ---- controls, and a read, which has the wheel's number alone
 abbrev pub WHEEL : ℕ
 WHEEL = FIRST
 
 abbrev pub ENGINE : ℕ
-ENGINE = WHEEL + 1
+ENGINE = WHEEL + 1 + handed.ENGINE
 
 abbrev pub BRAKE : ℕ
-BRAKE = ENGINE + 1
+BRAKE = WHEEL + 1 + handed.BRAKE
 
 abbrev pub STEERING : ℕ
-STEERING = BRAKE + 1
+STEERING = WHEEL + 1 + handed.STEERING
 
 -- ---- an aim: the chassis, in the order in which the table keeps it
 abbrev pub TRANSLATION : ℕ

@@ -1,43 +1,44 @@
 // Where each field of a scenario code stands among its words: the field order of docs/STREAM.md. Word 0 is the code, and each place is counted from the one before it. How many words a field has, and how many fields there are at most, the stream's layout says.
 use stream::layout as code;
+use table::handed;
 use table::layout;
 
 // The first field.
 pub const FIRST: usize = 1;
 
 // An add.
-pub const CONNECTION: usize = FIRST;
+pub const CONNECTION: usize = FIRST + handed::CONNECTION;
 
-pub const DIRECTION: usize = CONNECTION + 3;
+pub const DIRECTION: usize = FIRST + handed::DIRECTION;
 
-pub const AXLE: usize = DIRECTION + 3;
+pub const AXLE: usize = FIRST + handed::AXLE;
 
-pub const REST: usize = AXLE + 3;
+pub const REST: usize = FIRST + handed::REST;
 
-pub const RADIUS: usize = REST + 1;
+pub const RADIUS: usize = FIRST + handed::RADIUS;
 
-pub const STIFFNESS: usize = RADIUS + 1;
+pub const STIFFNESS: usize = FIRST + handed::STIFFNESS;
 
-pub const COMPRESSION: usize = STIFFNESS + 1;
+pub const COMPRESSION: usize = FIRST + handed::COMPRESSION;
 
-pub const DAMPING: usize = COMPRESSION + 1;
+pub const DAMPING: usize = FIRST + handed::DAMPING;
 
-pub const TRAVEL: usize = DAMPING + 1;
+pub const TRAVEL: usize = FIRST + handed::TRAVEL;
 
-pub const SIDE: usize = TRAVEL + 1;
+pub const SIDE: usize = FIRST + handed::SIDE;
 
-pub const SLIP: usize = SIDE + 1;
+pub const SLIP: usize = FIRST + handed::SLIP;
 
-pub const MOST: usize = SLIP + 1;
+pub const MOST: usize = FIRST + handed::MOST;
 
 // Controls, and a read, which has the wheel's number alone.
 pub const WHEEL: usize = FIRST;
 
-pub const ENGINE: usize = WHEEL + 1;
+pub const ENGINE: usize = WHEEL + 1 + handed::ENGINE;
 
-pub const BRAKE: usize = ENGINE + 1;
+pub const BRAKE: usize = WHEEL + 1 + handed::BRAKE;
 
-pub const STEERING: usize = BRAKE + 1;
+pub const STEERING: usize = WHEEL + 1 + handed::STEERING;
 
 // An aim: the chassis, in the order in which the table keeps it.
 pub const TRANSLATION: usize = FIRST + layout::TRANSLATION;

@@ -17,9 +17,9 @@ use wheel::Wheel;
 ghost use mathlib.Core.Path.{_≡_};
 ghost use Prim.Native.Nat.{ℕ, _+_, _*_, _<_, _≤_};
 ghost use lib.ListN.{length};
-ghost use Rattle.wheel.specs.Step.{withFriction};
+ghost use Rattle.wheel.specs.Step.{moving, withFriction};
 ghost use Rattle.table.specs.Layout as at;
-ghost use Rattle.table.specs.Writes.{withInfo, withApproach, withForce, withTurn};
+ghost use Rattle.table.specs.Writes.{withInfo, withPlace, withSettings, withControls, withApproach, withForce, withTurn};
 ghost use Rattle.table.specs.Rows.{vectorAt, rotationAt, inertiaAt, infoOf, placeOf, settingsOf, controlsOf, approachIn, motionOf, wheelOf, rowOf, wheelAt, putWheel, chassisOf, chassisList, chassisAt, putChassis, bodyOf, bodyAt};
 
 // Copies src over dst.
@@ -180,73 +180,6 @@ pub fn read_row(row: &[f32]) -> Wheel
     }
 }
 
-// A wheel over a row.
-pub fn write_row(row: &mut [f32], w: Wheel)
-    requires { ⌜ length (now row) ≡ at.ROW ⌝ }
-    ensures { λ _. ⌜ now (row .exit) ≡ rowOf w ⌝ }
-{
-    let i = w.info;
-    let p = w.place;
-    let s = w.settings;
-    let q = w.controls;
-    let a = w.approach;
-    let m = w.motion;
-    let numbers = [
-        i.normal.x,
-        i.normal.y,
-        i.normal.z,
-        i.point.x,
-        i.point.y,
-        i.point.z,
-        i.length,
-        i.hard.x,
-        i.hard.y,
-        i.hard.z,
-        p.centre.x,
-        p.centre.y,
-        p.centre.z,
-        p.direction.x,
-        p.direction.y,
-        p.direction.z,
-        p.axle.x,
-        p.axle.y,
-        p.axle.z,
-        s.connection.x,
-        s.connection.y,
-        s.connection.z,
-        s.direction.x,
-        s.direction.y,
-        s.direction.z,
-        s.axle.x,
-        s.axle.y,
-        s.axle.z,
-        s.rest,
-        s.travel,
-        s.radius,
-        s.stiffness,
-        s.compression,
-        s.relaxation,
-        s.slip,
-        s.side,
-        m.rotation,
-        m.spin,
-        s.most,
-        m.forward,
-        m.side,
-        q.steering.b.x,
-        q.steering.b.y,
-        q.steering.b.z,
-        q.steering.w,
-        q.engine,
-        q.brake,
-        a.inverse,
-        a.velocity,
-        m.force,
-        m.skid,
-    ];
-    copy(row, &numbers);
-}
-
 // The row with other ray info.
 pub fn write_info(row: &mut [f32], info: RayCastInfo)
     requires { ⌜ length (now row) ≡ at.ROW ⌝ }
@@ -310,6 +243,104 @@ pub fn write_turn(row: &mut [f32], rotation: f32, spin: f32)
 {
     row[ROTATION] = rotation;
     row[SPIN] = spin;
+}
+
+// The row with another place.
+pub fn write_place(row: &mut [f32], place: Place)
+    requires { ⌜ length (now row) ≡ at.ROW ⌝ }
+    ensures { λ _. ⌜ now (row .exit) ≡ rowOf (withPlace (wheelOf (now (row .entry))) place) ⌝ }
+{
+    let numbers = [
+        place.centre.x,
+        place.centre.y,
+        place.centre.z,
+        place.direction.x,
+        place.direction.y,
+        place.direction.z,
+        place.axle.x,
+        place.axle.y,
+        place.axle.z,
+    ];
+    copy(&mut row[CENTRE..CONNECTION], &numbers);
+}
+
+// The row with other settings. The most force stands apart from the rest of them.
+pub fn write_settings(row: &mut [f32], s: Settings)
+    requires { ⌜ length (now row) ≡ at.ROW ⌝ }
+    ensures { λ _. ⌜ now (row .exit) ≡ rowOf (withSettings (wheelOf (now (row .entry))) s) ⌝ }
+{
+    row[MOST] = s.most;
+    let numbers = [
+        s.connection.x,
+        s.connection.y,
+        s.connection.z,
+        s.direction.x,
+        s.direction.y,
+        s.direction.z,
+        s.axle.x,
+        s.axle.y,
+        s.axle.z,
+        s.rest,
+        s.travel,
+        s.radius,
+        s.stiffness,
+        s.compression,
+        s.relaxation,
+        s.slip,
+        s.side,
+    ];
+    copy(&mut row[CONNECTION..ROTATION], &numbers);
+}
+
+// The row with other controls.
+pub fn write_controls(row: &mut [f32], q: Controls)
+    requires { ⌜ length (now row) ≡ at.ROW ⌝ }
+    ensures { λ _. ⌜ now (row .exit) ≡ rowOf (withControls (wheelOf (now (row .entry))) q) ⌝ }
+{
+    let numbers = [
+        q.steering.b.x,
+        q.steering.b.y,
+        q.steering.b.z,
+        q.steering.w,
+        q.engine,
+        q.brake,
+    ];
+    copy(&mut row[STEERING..INVERSE], &numbers);
+}
+
+// The row with other motion.
+pub fn write_motion(row: &mut [f32], m: Motion)
+    requires { ⌜ length (now row) ≡ at.ROW ⌝ }
+    ensures { λ _. ⌜ now (row .exit) ≡ rowOf (moving (wheelOf (now (row .entry))) m) ⌝ }
+{
+    let d = Friction {
+        forward: m.forward,
+        side: m.side,
+        skid: m.skid,
+    };
+    write_turn(row, m.rotation, m.spin);
+    write_force(row, m.force);
+    write_friction(row, d);
+}
+
+// The row with another place, other settings and other controls: what a wheel has before its ray is cast.
+pub fn write_kept(row: &mut [f32], place: Place, settings: Settings, controls: Controls)
+    requires { ⌜ length (now row) ≡ at.ROW ⌝ }
+    ensures { λ _. ⌜ now (row .exit) ≡ rowOf (withControls (withSettings (withPlace (wheelOf (now (row .entry))) place) settings) controls) ⌝ }
+{
+    write_place(row, place);
+    write_settings(row, settings);
+    write_controls(row, controls);
+}
+
+// A wheel over a row.
+pub fn write_row(row: &mut [f32], w: Wheel)
+    requires { ⌜ length (now row) ≡ at.ROW ⌝ }
+    ensures { λ _. ⌜ now (row .exit) ≡ rowOf w ⌝ }
+{
+    write_kept(row, w.place, w.settings, w.controls);
+    write_contact(row, w.info, w.approach);
+    write_motion(row, w.motion);
 }
 
 // Wheel i of the table.
