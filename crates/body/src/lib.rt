@@ -4,7 +4,7 @@ use vector::Pose;
 use vector::Vector;
 ghost use mathlib.Core.Path.{_≡_};
 ghost use lib.Ieee.{binary32};
-ghost use Rattle.body.specs.Body.{velocityAt, impulseAt, denominatorOf};
+ghost use Rattle.body.specs.Body.{velocityAtPoint, applyImpulseAtPoint, impulseDenominator};
 
 // What both kinds of body have.
 pub struct Body {
@@ -29,14 +29,14 @@ pub struct GroundBody {
 }
 
 pub fn velocity_at_point(b: Body, p: Vector) -> Vector
-    ensures { λ r. ⌜ r ≡ velocityAt binary32 b p ⌝ }
+    ensures { λ r. ⌜ r ≡ velocityAtPoint binary32 b p ⌝ }
 {
     vector::add(b.linvel, vector::cross(b.angvel, vector::sub(p, b.centre)))
 }
 
 // The chassis after an impulse at the point p.
 pub fn apply_impulse_at_point(c: Chassis, impulse: Vector, p: Vector) -> Chassis
-    ensures { λ r. ⌜ r ≡ impulseAt binary32 c impulse p ⌝ }
+    ensures { λ r. ⌜ r ≡ applyImpulseAtPoint binary32 c impulse p ⌝ }
 {
     let b = c.body;
     let mut after = b;
@@ -44,7 +44,7 @@ pub fn apply_impulse_at_point(c: Chassis, impulse: Vector, p: Vector) -> Chassis
     let arm = vector::sub(p, b.centre);
     after.angvel = vector::add(
         b.angvel,
-        vector::turn(b.inertia, vector::cross(arm, impulse)),
+        vector::inertia_dot(b.inertia, vector::cross(arm, impulse)),
     );
     let mut r = c;
     r.body = after;
@@ -52,9 +52,9 @@ pub fn apply_impulse_at_point(c: Chassis, impulse: Vector, p: Vector) -> Chassis
 }
 
 pub fn impulse_denominator(b: Body, p: Vector, n: Vector) -> f32
-    ensures { λ r. ⌜ r ≡ denominatorOf binary32 b p n ⌝ }
+    ensures { λ r. ⌜ r ≡ impulseDenominator binary32 b p n ⌝ }
 {
     let d = vector::sub(p, b.centre);
-    let turned = vector::turn(b.inertia, vector::cross(d, n));
+    let turned = vector::inertia_dot(b.inertia, vector::cross(d, n));
     b.invmass + vector::dot(n, vector::cross(turned, d))
 }

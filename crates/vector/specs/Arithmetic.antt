@@ -49,8 +49,8 @@ unfoldable pub lengthV : Format → Vector → Float
 lengthV f a = rootOf f (dotV f a a)
 
 -- ---- Normalise: r = 1/length; the vector times r if r is finite and above 0, else zero.
-unfoldable pub normaliseV : Format → Vector → Vector
-normaliseV f v = let r = div f one (lengthV f v) in cond (usable r) (scaleV f v r) zeroV
+unfoldable pub normalizeOrZero : Format → Vector → Vector
+normalizeOrZero f v = let r = div f one (lengthV f v) in cond (usable r) (scaleV f v r) zeroV
 
 -- ---- Rotation (b, w) of v: (v·(w·w − b·b) + b·((v·b)·2)) + (b×v)·(w·2).
 unfoldable pub rotateV : Format → Rotation → Vector → Vector
@@ -64,8 +64,8 @@ rotateV f q v =
     (scaleV f (crossV f b v) (mul f w two))
 
 -- ---- A pose rotates, then adds its translation.
-unfoldable pub poseV : Format → Pose → Vector → Vector
-poseV f p v = addV f (rotateV f (p .rotation) v) (p .translation)
+unfoldable pub transformPoint : Format → Pose → Vector → Vector
+transformPoint f p v = addV f (rotateV f (p .rotation) v) (p .translation)
 
 -- ---- Inverse inertia, six numbers, is a symmetric three by three array of rows; a product is three row dots.
 unfoldable pub rowsOf : Inertia → List (List Float)
@@ -77,9 +77,9 @@ rowDot f row v = dotV f (record { x = getD row 0 nan; y = getD row 1 nan; z = ge
 unfoldable pub rowsDot : Format → List (List Float) → Vector → Vector
 rowsDot f rows v = record { x = rowDot f (getD rows 0 []) v; y = rowDot f (getD rows 1 []) v; z = rowDot f (getD rows 2 []) v }
 
-unfoldable pub inertiaV : Format → Inertia → Vector → Vector
-inertiaV f i v = rowsDot f (rowsOf i) v
+unfoldable pub inertiaDot : Format → Inertia → Vector → Vector
+inertiaDot f i v = rowsDot f (rowsOf i) v
 
 -- ---- "What a vehicle keeps": axes are numbers 0 to 2; axis i has 1 at part i and 0 elsewhere.
-unfoldable pub axisV : ℕ → Vector
-axisV i = record { x = cond (eqb i 0) one zero; y = cond (eqb i 1) one zero; z = cond (eqb i 2) one zero }
+unfoldable pub ith : ℕ → Vector
+ith i = record { x = cond (eqb i 0) one zero; y = cond (eqb i 1) one zero; z = cond (eqb i 2) one zero }

@@ -4,7 +4,7 @@ ghost use mathlib.Core.Bool.{cond};
 ghost use lib.Dec.{eqb};
 ghost use lib.Ieee.{binary32};
 ghost use Rattle.real.specs.Number.{zero, one};
-ghost use Rattle.vector.specs.Arithmetic.{zeroV, addV, subV, negV, scaleV, partsV, dotV, crossV, lengthV, normaliseV, rotateV, poseV, rowsOf, rowDot, rowsDot, inertiaV, axisV};
+ghost use Rattle.vector.specs.Arithmetic.{zeroV, addV, subV, negV, scaleV, partsV, dotV, crossV, lengthV, normalizeOrZero, rotateV, transformPoint, rowsOf, rowDot, rowsDot, inertiaDot, ith};
 
 pub struct Vector {
     pub x: f32,
@@ -33,6 +33,7 @@ pub struct Inertia {
     pub zz: f32,
 }
 
+// The zero vector.
 pub fn zero() -> Vector
     ensures { λ r. ⌜ r ≡ zeroV ⌝ }
 {
@@ -43,6 +44,7 @@ pub fn zero() -> Vector
     }
 }
 
+// The sum, part by part.
 pub fn add(a: Vector, b: Vector) -> Vector
     ensures { λ r. ⌜ r ≡ addV binary32 a b ⌝ }
 {
@@ -53,6 +55,7 @@ pub fn add(a: Vector, b: Vector) -> Vector
     }
 }
 
+// a less b, part by part.
 pub fn sub(a: Vector, b: Vector) -> Vector
     ensures { λ r. ⌜ r ≡ subV binary32 a b ⌝ }
 {
@@ -63,6 +66,7 @@ pub fn sub(a: Vector, b: Vector) -> Vector
     }
 }
 
+// The vector turned round, part by part.
 pub fn neg(a: Vector) -> Vector
     ensures { λ r. ⌜ r ≡ negV a ⌝ }
 {
@@ -73,6 +77,7 @@ pub fn neg(a: Vector) -> Vector
     }
 }
 
+// The vector times a number, part by part.
 pub fn scale(a: Vector, s: f32) -> Vector
     ensures { λ r. ⌜ r ≡ scaleV binary32 a s ⌝ }
 {
@@ -94,12 +99,14 @@ pub fn parts(a: Vector, b: Vector) -> Vector
     }
 }
 
+// The dot product, (x·x' + y·y') + z·z'.
 pub fn dot(a: Vector, b: Vector) -> f32
     ensures { λ r. ⌜ r ≡ dotV binary32 a b ⌝ }
 {
     (a.x * b.x + a.y * b.y) + a.z * b.z
 }
 
+// The cross product, whose first part is y·z' - z·y', the rest cyclic.
 pub fn cross(a: Vector, b: Vector) -> Vector
     ensures { λ r. ⌜ r ≡ crossV binary32 a b ⌝ }
 {
@@ -110,14 +117,16 @@ pub fn cross(a: Vector, b: Vector) -> Vector
     }
 }
 
+// The length: the root of the dot with itself.
 pub fn length(a: Vector) -> f32
     ensures { λ r. ⌜ r ≡ lengthV binary32 a ⌝ }
 {
     real::root::root(dot(a, a))
 }
 
+// The vector at length 1; zero where the reciprocal of its length is not finite and above 0.
 pub fn normalize_or_zero(v: Vector) -> Vector
-    ensures { λ r. ⌜ r ≡ normaliseV binary32 v ⌝ }
+    ensures { λ r. ⌜ r ≡ normalizeOrZero binary32 v ⌝ }
 {
     let r = 1.0 / length(v);
     if real::is_usable(r) {
@@ -127,6 +136,7 @@ pub fn normalize_or_zero(v: Vector) -> Vector
     }
 }
 
+// The vector v rotated by q.
 pub fn rotate(q: Rotation, v: Vector) -> Vector
     ensures { λ r. ⌜ r ≡ rotateV binary32 q v ⌝ }
 {
@@ -139,17 +149,19 @@ pub fn rotate(q: Rotation, v: Vector) -> Vector
 
 // A point under a pose: rotated, then moved.
 pub fn transform_point(p: Pose, v: Vector) -> Vector
-    ensures { λ r. ⌜ r ≡ poseV binary32 p v ⌝ }
+    ensures { λ r. ⌜ r ≡ transformPoint binary32 p v ⌝ }
 {
     add(rotate(p.rotation, v), p.translation)
 }
 
+// The symmetric three by three array of an inverse inertia, row by row.
 pub fn rows(i: Inertia) -> [[f32; 3]; 3]
     ensures { λ r. ⌜ r ≡ rowsOf i ⌝ }
 {
     [[i.xx, i.xy, i.xz], [i.xy, i.yy, i.yz], [i.xz, i.yz, i.zz]]
 }
 
+// The dot of one row and a vector.
 pub fn row_dot(row: [f32; 3], v: Vector) -> f32
     ensures { λ r. ⌜ r ≡ rowDot binary32 row v ⌝ }
 {
@@ -163,6 +175,7 @@ pub fn row_dot(row: [f32; 3], v: Vector) -> f32
     )
 }
 
+// The product of an array of rows and a vector: three row dots.
 pub fn rows_dot(m: [[f32; 3]; 3], v: Vector) -> Vector
     ensures { λ r. ⌜ r ≡ rowsDot binary32 m v ⌝ }
 {
@@ -174,8 +187,8 @@ pub fn rows_dot(m: [[f32; 3]; 3], v: Vector) -> Vector
 }
 
 // The product of an inverse inertia and a vector.
-pub fn turn(i: Inertia, v: Vector) -> Vector
-    ensures { λ r. ⌜ r ≡ inertiaV binary32 i v ⌝ }
+pub fn inertia_dot(i: Inertia, v: Vector) -> Vector
+    ensures { λ r. ⌜ r ≡ inertiaDot binary32 i v ⌝ }
 {
     let m = rows(i);
     rows_dot(m, v)
@@ -190,7 +203,7 @@ fn part_at(i: u32, at: u32) -> f32
 
 // The axis of number i: 0 x, 1 y, 2 z, and above that none.
 pub fn ith(i: u32) -> Vector
-    ensures { λ r. ⌜ r ≡ axisV i ⌝ }
+    ensures { λ r. ⌜ r ≡ ith i ⌝ }
 {
     Vector {
         x: part_at(i, 0),

@@ -1,5 +1,1 @@
-pub mod Demand3
-pub mod Brake
-pub mod GripCircle
-pub mod Chain
-pub mod Ranges
+pub mod Alone

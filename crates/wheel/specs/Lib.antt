@@ -1,7 +1,4 @@
-pub mod Suspension
+pub mod Parts
 pub mod Ray
-pub mod Demand
-pub mod Grip
+pub mod Contact
 pub mod Step
-pub mod Directions
-pub mod Demand3

@@ -1,35 +1,29 @@
 // One wheel, on values: document 01's rules for a single wheel. A row of the lent table is read into a `Wheel`, and written from one.
 use body::GroundBody;
+use tyre::Approach;
+use tyre::WheelTuning;
 use vector::Rotation;
 use vector::Vector;
 
 pub mod ray; // rules 1 and 3 to 5: where the wheel is, and what its ray met
-pub mod suspension; // rules 4 and 6, on plain numbers, and the spring's impulse
-pub mod demand; // rule 7: what the tyre asks of the ground
-pub mod grip; // rule 8, on plain numbers: what the ground gives
+pub mod contact; // rule 7: the tyre on the ground under it, over bodies
 pub mod step; // rules 6 to 10 for one wheel of a drive
 
-// What was handed in when the wheel was added. `side` is the source's side_friction_stiffness, `most` its max_suspension_force.
+// What was handed in when the wheel was added, in the order of docs/STREAM.md.
 pub struct Settings {
     pub connection: Vector,
     pub direction: Vector,
     pub axle: Vector,
     pub rest: f32,
-    pub travel: f32,
     pub radius: f32,
-    pub stiffness: f32,
-    pub compression: f32,
-    pub relaxation: f32,
-    pub slip: f32,
-    pub side: f32,
-    pub most: f32,
+    pub tuning: WheelTuning,
 }
 
 // What is set before a frame. The steering is a rotation in world space.
 pub struct Controls {
-    pub steering: Rotation,
     pub engine: f32,
     pub brake: f32,
+    pub steering: Rotation,
 }
 
 // The source's `RayCastInfo`, less contact and ground object, which are not kept.
@@ -45,12 +39,6 @@ pub struct Place {
     pub centre: Vector,
     pub direction: Vector,
     pub axle: Vector,
-}
-
-// The ray's meeting with the ground: the source's suspension_relative_velocity and clipped_inv_contact_dot_suspension.
-pub struct Approach {
-    pub velocity: f32,
-    pub inverse: f32,
 }
 
 // The spin is the source's delta_rotation.
@@ -84,13 +72,6 @@ pub enum RayAnswer {
 pub enum Ground {
     Nothing,
     On(GroundBody),
-}
-
-// The two impulses of one wheel, and its skid.
-pub struct Friction {
-    pub forward: f32,
-    pub side: f32,
-    pub skid: f32,
 }
 
 // A wheel's axis on the contact plane, and its rolling direction there.

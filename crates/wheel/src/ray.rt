@@ -1,29 +1,37 @@
-// Where one wheel is, and what its ray met: document 01, rules 1 and 3 to 5.
-use super::Approach;
+// Where one wheel is, and what its ray met: document 01, rules 1 and 3 to 5. `s` are the settings that count in the step.
 use super::Place;
 use super::RayAnswer;
 use super::RayCastInfo;
+use super::Settings;
 use super::Wheel;
-use super::suspension;
 use body::Body;
+use tyre::Approach;
+use tyre::suspension;
 use vector::Pose;
 use vector::Vector;
 ghost use mathlib.Core.Path.{_≡_};
 ghost use lib.Ieee.{binary32};
-ghost use Rattle.wheel.specs.Ray.{transformOf, rayOf, isZero, upwardOf, undefinedAt, normalOf, hitOf, missOf, castOf, grounds};
+ghost use Rattle.wheel.specs.Ray.{centreOf, updateWheelTransform, rayOf, isZero, upwardNormal, isUndefined, contactNormal, hitOf, missOf, rayCast, isGrounded, namedOf};
+
+// Rule 1: the centre of a wheel at this length from its hard point.
+fn centre_of(hard: Vector, direction: Vector, length: f32) -> Vector
+    ensures { λ r. ⌜ r ≡ centreOf binary32 hard direction length ⌝ }
+{
+    vector::add(hard, vector::scale(direction, length))
+}
 
 // Rule 1: the wheel under the chassis' pose. The centre still has the length of the drive before.
-pub fn update_wheel_transform(w: Wheel, pose: Pose) -> Wheel
-    ensures { λ r. ⌜ r ≡ transformOf binary32 pose w ⌝ }
+pub fn update_wheel_transform(pose: Pose, w: Wheel) -> Wheel
+    ensures { λ r. ⌜ r ≡ updateWheelTransform binary32 pose w ⌝ }
 {
     let s = w.settings;
     let c = w.controls;
-    let turn = pose.rotation;
+    let q = pose.rotation;
     let mut info = w.info;
     info.hard = vector::transform_point(pose, s.connection);
-    let direction = vector::rotate(turn, s.direction);
-    let axle = vector::rotate(c.steering, vector::rotate(turn, s.axle));
-    let centre = vector::add(info.hard, vector::scale(direction, info.length));
+    let direction = vector::rotate(q, s.direction);
+    let axle = vector::rotate(c.steering, vector::rotate(q, s.axle));
+    let centre = centre_of(info.hard, direction, info.length);
     let place = Place {
         centre,
         direction,
@@ -36,21 +44,21 @@ pub fn update_wheel_transform(w: Wheel, pose: Pose) -> Wheel
 }
 
 // Rule 3: the ray, from the hard point.
-pub fn ray(w: Wheel) -> Vector
-    ensures { λ r. ⌜ r ≡ rayOf binary32 w ⌝ }
+pub fn ray_of(s: Settings, w: Wheel) -> Vector
+    ensures { λ r. ⌜ r ≡ rayOf binary32 s w ⌝ }
 {
-    vector::scale(w.place.direction, w.settings.rest + w.settings.radius)
+    vector::scale(w.place.direction, s.rest + s.radius)
 }
 
-pub fn is_zero(v: Vector) -> bool
+fn is_zero(v: Vector) -> bool
     ensures { λ r. ⌜ r ≡ isZero v ⌝ }
 {
     v.x == 0.0 && (v.y == 0.0 && v.z == 0.0)
 }
 
 // Rule 3: a hit at time 0 takes minus the upward normal.
-pub fn upward_normal(time: f32, normal: Vector, upward: Vector) -> Vector
-    ensures { λ r. ⌜ r ≡ upwardOf time normal upward ⌝ }
+fn upward_normal(time: f32, normal: Vector, upward: Vector) -> Vector
+    ensures { λ r. ⌜ r ≡ upwardNormal time normal upward ⌝ }
 {
     if time == 0.0 {
         vector::neg(upward)
@@ -60,15 +68,15 @@ pub fn upward_normal(time: f32, normal: Vector, upward: Vector) -> Vector
 }
 
 // Rule 3: whether a hit has no normal of its own.
-pub fn is_undefined(time: f32, normal: Vector) -> bool
-    ensures { λ r. ⌜ r ≡ undefinedAt time normal ⌝ }
+fn is_undefined(time: f32, normal: Vector) -> bool
+    ensures { λ r. ⌜ r ≡ isUndefined time normal ⌝ }
 {
     time == 0.0 && is_zero(normal)
 }
 
 // Rule 3: a zero normal at time 0 becomes minus the direction.
-pub fn contact_normal(time: f32, normal: Vector, direction: Vector) -> Vector
-    ensures { λ r. ⌜ r ≡ normalOf time normal direction ⌝ }
+fn contact_normal(time: f32, normal: Vector, direction: Vector) -> Vector
+    ensures { λ r. ⌜ r ≡ contactNormal time normal direction ⌝ }
 {
     if is_undefined(time, normal) {
         vector::neg(direction)
@@ -78,13 +86,12 @@ pub fn contact_normal(time: f32, normal: Vector, direction: Vector) -> Vector
 }
 
 // Rule 4: the wheel after a hit.
-pub fn hit(w: Wheel, chassis: Body, time: f32, normal: Vector) -> Wheel
-    ensures { λ r. ⌜ r ≡ hitOf binary32 chassis w time normal ⌝ }
+fn hit_of(s: Settings, chassis: Body, time: f32, normal: Vector, w: Wheel) -> Wheel
+    ensures { λ r. ⌜ r ≡ hitOf binary32 s chassis time normal w ⌝ }
 {
-    let s = w.settings;
     let hard = w.info.hard;
-    let point = vector::add(hard, vector::scale(ray(w), time));
-    let length = suspension::suspension_length(s.rest, s.travel, s.radius, time);
+    let point = vector::add(hard, vector::scale(ray_of(s, w), time));
+    let length = suspension::suspension_length(s.rest, s.tuning.travel, s.radius, time);
     let facing = vector::dot(normal, w.place.direction);
     let speed = vector::dot(normal, body::velocity_at_point(chassis, point));
     let info = RayCastInfo {
@@ -95,21 +102,21 @@ pub fn hit(w: Wheel, chassis: Body, time: f32, normal: Vector) -> Wheel
     };
     let mut r = w;
     r.info = info;
-    r.approach = suspension::approach(facing, speed);
+    r.approach = suspension::approach_of(facing, speed);
     r
 }
 
 // Rule 5: the wheel where nothing was hit.
-pub fn miss(w: Wheel) -> Wheel
-    ensures { λ r. ⌜ r ≡ missOf binary32 w ⌝ }
+fn miss_of(s: Settings, w: Wheel) -> Wheel
+    ensures { λ r. ⌜ r ≡ missOf binary32 s w ⌝ }
 {
     let hard = w.info.hard;
     let normal = vector::neg(w.place.direction);
-    let point = vector::add(hard, ray(w));
+    let point = vector::add(hard, ray_of(s, w));
     let info = RayCastInfo {
         normal,
         point,
-        length: w.settings.rest,
+        length: s.rest,
         hard,
     };
     let approach = Approach {
@@ -123,24 +130,26 @@ pub fn miss(w: Wheel) -> Wheel
 }
 
 // The wheel once its ray answer is in.
-pub fn ray_cast(w: Wheel, chassis: Body, answer: RayAnswer) -> Wheel
-    ensures { λ r. ⌜ r ≡ castOf binary32 chassis w answer ⌝ }
+pub fn ray_cast(s: Settings, chassis: Body, answer: RayAnswer, w: Wheel) -> Wheel
+    ensures { λ r. ⌜ r ≡ rayCast binary32 s chassis answer w ⌝ }
 {
     match answer {
-        RayAnswer::Nothing => miss(w),
-        RayAnswer::Hit(time, normal, _) => hit(
-            w,
+        RayAnswer::Nothing => miss_of(s, w),
+        RayAnswer::Hit(time, normal, _) => hit_of(
+            s,
             chassis,
             time,
             contact_normal(time, normal, w.place.direction),
+            w,
         ),
         RayAnswer::HitUp(time, normal, upward, _) => {
             let turned = upward_normal(time, normal, upward);
-            hit(
-                w,
+            hit_of(
+                s,
                 chassis,
                 time,
                 contact_normal(time, turned, w.place.direction),
+                w,
             )
         }
     }
@@ -148,11 +157,22 @@ pub fn ray_cast(w: Wheel, chassis: Body, answer: RayAnswer) -> Wheel
 
 // Every hit grounds its wheel.
 pub fn is_grounded(answer: RayAnswer) -> bool
-    ensures { λ r. ⌜ r ≡ grounds answer ⌝ }
+    ensures { λ r. ⌜ r ≡ isGrounded answer ⌝ }
 {
     match answer {
         RayAnswer::Nothing => false,
         RayAnswer::Hit(_, _, _) => true,
         RayAnswer::HitUp(_, _, _, _) => true,
+    }
+}
+
+// The number that an answer names its ground body by; 0 for none.
+pub fn named_of(answer: RayAnswer) -> u32
+    ensures { λ r. ⌜ r ≡ namedOf answer ⌝ }
+{
+    match answer {
+        RayAnswer::Nothing => 0,
+        RayAnswer::Hit(_, _, n) => n,
+        RayAnswer::HitUp(_, _, _, n) => n,
     }
 }

@@ -1,169 +1,142 @@
-// One wheel of a drive: document 01, rules 6 to 10, in the source's order.
+// One wheel of a drive: document 01, rules 6 to 10, in the source's order. `s` are the settings that count in the step.
 use super::Directions;
-use super::Friction;
 use super::Ground;
+use super::Settings;
 use super::Wheel;
-use super::demand;
-use super::grip;
-use super::suspension;
+use super::contact;
 use body::Body;
 use body::Chassis;
+use tyre::Friction;
+use tyre::demand;
+use tyre::grip;
+use tyre::suspension;
 use vector::Vector;
 ghost use mathlib.Core.Path.{_≡_};
 ghost use lib.Ieee.{binary32};
-ghost use Rattle.wheel.specs.Directions.{directionsOf};
-ghost use Rattle.wheel.specs.Step.{contactForce, wheelForce, springOf, wheelLimit, wheelAxis, wheelForward, sideDemand, rollingDemand, skidding, frictionOf, sidePoint, pushedOf, contactSpin, turnedBy, spunOf};
+ghost use Rattle.wheel.specs.Step.{contactForce, wheelForce, applySuspension, wheelLimit, sideDemand, rollingDemand, frictionOf, sidePoint, applyFriction, contactSpin, spunBy, updateRotation};
+
+// The roll influence of every wheel: rule 9.
+const ROLL_INFLUENCE: f32 = 0.1;
 
 // Rule 6: the force of the wheel's spring in contact.
-pub fn contact_force(w: Wheel, invmass: f32) -> f32
-    ensures { λ r. ⌜ r ≡ contactForce binary32 invmass w ⌝ }
+fn contact_force(s: Settings, invmass: f32, w: Wheel) -> f32
+    ensures { λ r. ⌜ r ≡ contactForce binary32 s invmass w ⌝ }
 {
-    let s = w.settings;
-    let a = w.approach;
-    let d = suspension::damping(s.compression, s.relaxation, a.velocity);
-    suspension::suspension_force(
-        s.stiffness,
-        s.rest,
-        w.info.length,
-        a.inverse,
-        d,
-        a.velocity,
-        invmass,
-    )
+    suspension::suspension_force(s.tuning, s.rest, w.info.length, w.approach, invmass)
 }
 
 // Rule 6: the force of the wheel's spring; 0 in the air.
-pub fn wheel_force(w: Wheel, invmass: f32, grounds: bool) -> f32
-    ensures { λ r. ⌜ r ≡ wheelForce binary32 invmass grounds w ⌝ }
+pub fn wheel_force(s: Settings, invmass: f32, contact: bool, w: Wheel) -> f32
+    ensures { λ r. ⌜ r ≡ wheelForce binary32 s invmass contact w ⌝ }
 {
-    if grounds {
-        contact_force(w, invmass)
+    if contact {
+        contact_force(s, invmass, w)
     } else {
         0.0
     }
 }
 
-// Rule 6: the chassis after the wheel's spring.
-pub fn apply_suspension(chassis: Chassis, w: Wheel, dt: f32) -> Chassis
-    ensures { λ r. ⌜ r ≡ springOf binary32 dt w chassis ⌝ }
+// Rule 6: the chassis after the impulse of the wheel's spring, whose force is cut to the maximum.
+pub fn apply_suspension(s: Settings, dt: f32, w: Wheel, chassis: Chassis) -> Chassis
+    ensures { λ r. ⌜ r ≡ applySuspension binary32 s dt w chassis ⌝ }
 {
     let info = w.info;
-    let force = suspension::cut(w.motion.force, w.settings.most);
+    let force = suspension::cut_of(w.motion.force, s.tuning.most);
     let impulse = vector::scale(vector::scale(info.normal, force), dt);
     body::apply_impulse_at_point(chassis, impulse, info.point)
 }
 
 // Rule 6: the wheel's grip limit.
-pub fn wheel_limit(w: Wheel, dt: f32) -> f32
-    ensures { λ r. ⌜ r ≡ wheelLimit binary32 dt w ⌝ }
+pub fn wheel_limit(s: Settings, dt: f32, w: Wheel) -> f32
+    ensures { λ r. ⌜ r ≡ wheelLimit binary32 s dt w ⌝ }
 {
-    grip::grip_limit(w.motion.force, dt, w.settings.slip)
+    grip::limit_of(w.motion.force, dt, s.tuning.slip)
 }
 
-// Rule 7: the wheel's axis on the contact plane, and its rolling direction.
-pub fn directions(w: Wheel) -> Directions
-    ensures { λ r. ⌜ r ≡ directionsOf binary32 w ⌝ }
+// Rule 7: the side demand of a grounded wheel with this axis: the source's resolve_single_bilateral and resolve_single_unilateral in one, times
+// the side stiffness.
+fn side_demand(s: Settings, chassis: Body, ground: Ground, axis: Vector, w: Wheel) -> f32
+    ensures { λ r. ⌜ r ≡ sideDemand binary32 s chassis ground axis w ⌝ }
 {
-    let normal = w.info.normal;
-    let axis = demand::contact_axis(w.place.axle, normal);
-    let forward = demand::contact_forward(normal, axis);
-    Directions { axis, forward }
-}
-
-// Rule 7: the side demand of a grounded wheel with this axis.
-pub fn side_demand(w: Wheel, axis: Vector, chassis: Body, ground: Ground) -> f32
-    requires { ⌜ axis ≡ wheelAxis binary32 w ⌝ }
-    ensures { λ r. ⌜ r ≡ sideDemand binary32 chassis ground w ⌝ }
-{
-    demand::resolve_single(chassis, ground, w.info.point, axis, w.settings.side)
+    let p = w.info.point;
+    let counted = contact::dynamic_ground(ground);
+    let speed = vector::dot(axis, contact::relative_velocity(chassis, counted, p));
+    let sum = contact::jacobian_diagonal(chassis, counted, p, axis);
+    demand::side_response(speed, sum, s.tuning.sideways)
 }
 
 // Rule 7: the rolling demand of a grounded wheel with this rolling direction.
-pub fn rolling_demand(
-    w: Wheel,
+fn rolling_demand(
+    dt: f32,
+    chassis: Body,
+    ground: Ground,
+    grounded: u8,
     forward: Vector,
-    dt: f32,
-    chassis: Body,
-    ground: Ground,
-    grounded: u8,
-) -> f32
-    requires { ⌜ forward ≡ wheelForward binary32 w ⌝ }
-    ensures { λ r. ⌜ r ≡ rollingDemand binary32 dt chassis ground grounded w ⌝ }
-{
-    let uncut = demand::calc_rolling_friction(chassis, ground, grounded, w.info.point, forward);
-    demand::rolling(dt, w.controls.engine, w.controls.brake, uncut)
-}
-
-// Rule 8: a demand with the skid that the limit gives it.
-pub fn with_skid(forward: f32, side: f32, limit: f32) -> Friction
-    ensures { λ r. ⌜ r ≡ skidding binary32 forward side limit ⌝ }
-{
-    Friction {
-        forward,
-        side,
-        skid: grip::skid_info(forward, side, limit),
-    }
-}
-
-// Rules 7 and 8: the wheel's demands and skid before the rescale.
-pub fn friction(
     w: Wheel,
-    d: Directions,
+) -> f32
+    ensures { λ r. ⌜ r ≡ rollingDemand binary32 dt chassis ground grounded forward w ⌝ }
+{
+    let p = w.info.point;
+    let speed = vector::dot(forward, contact::relative_velocity(chassis, ground, p));
+    let sum = contact::denominators_of(chassis, ground, p, forward);
+    let uncut = demand::rolling_response(speed, sum, grounded);
+    demand::rolling_of(dt, w.controls.engine, w.controls.brake, uncut)
+}
+
+// Rules 7 and 8: the demands and the skid of the wheel with these directions, before the rescale.
+pub fn friction_of(
+    s: Settings,
     dt: f32,
     chassis: Body,
-    grounds: bool,
+    contact: bool,
     ground: Ground,
     grounded: u8,
+    d: Directions,
+    w: Wheel,
 ) -> Friction
-    requires { ⌜ d ≡ directionsOf binary32 w ⌝ }
-    ensures { λ r. ⌜ r ≡ frictionOf binary32 dt chassis grounds ground grounded w ⌝ }
+    ensures { λ r. ⌜ r ≡ frictionOf binary32 s dt chassis contact ground grounded d w ⌝ }
 {
-    if grounds {
-        let forward = rolling_demand(w, d.forward, dt, chassis, ground, grounded);
-        let side = side_demand(w, d.axis, chassis, ground);
-        with_skid(forward, side, wheel_limit(w, dt))
+    if contact {
+        let forward = rolling_demand(dt, chassis, ground, grounded, d.forward, w);
+        let side = side_demand(s, chassis, ground, d.axis, w);
+        grip::with_skid(forward, side, wheel_limit(s, dt, w))
     } else {
-        Friction {
-            forward: 0.0,
-            side: 0.0,
-            skid: 1.0,
-        }
+        grip::airborne()
     }
 }
 
 // Rule 9: where the side impulse is applied.
-pub fn side_point(up: Vector, point: Vector, centre: Vector) -> Vector
-    ensures { λ r. ⌜ r ≡ sidePoint binary32 up point centre ⌝ }
+fn side_point(roll: f32, up: Vector, point: Vector, centre: Vector) -> Vector
+    ensures { λ r. ⌜ r ≡ sidePoint binary32 roll up point centre ⌝ }
 {
     let height = vector::dot(up, vector::sub(point, centre));
-    vector::sub(point, vector::scale(up, height * (1.0 - 0.1)))
+    vector::sub(point, vector::scale(up, height * (1.0 - roll)))
 }
 
-// Rule 9: the chassis after the wheel's two impulses.
-pub fn apply_friction(chassis: Chassis, w: Wheel, d: Directions, up: Vector) -> Chassis
-    requires { ⌜ d ≡ directionsOf binary32 w ⌝ }
-    ensures { λ r. ⌜ r ≡ pushedOf binary32 up w chassis ⌝ }
+// Rule 9: the chassis after the two impulses of the wheel with these directions.
+pub fn apply_friction(up: Vector, d: Directions, w: Wheel, chassis: Chassis) -> Chassis
+    ensures { λ r. ⌜ r ≡ applyFriction binary32 up d w chassis ⌝ }
 {
     let m = w.motion;
     let point = w.info.point;
     let rolled = body::apply_impulse_at_point(chassis, vector::scale(d.forward, m.forward), point);
-    let lifted = side_point(up, point, chassis.body.centre);
+    let lifted = side_point(ROLL_INFLUENCE, up, point, chassis.body.centre);
     body::apply_impulse_at_point(rolled, vector::scale(d.axis, m.side), lifted)
 }
 
 // Rule 10: the spin of a wheel in contact.
-pub fn contact_spin(w: Wheel, dt: f32, chassis: Body) -> f32
-    ensures { λ r. ⌜ r ≡ contactSpin binary32 dt chassis w ⌝ }
+fn contact_spin(s: Settings, dt: f32, chassis: Body, w: Wheel) -> f32
+    ensures { λ r. ⌜ r ≡ contactSpin binary32 s dt chassis w ⌝ }
 {
     let info = w.info;
     let forward = vector::normalize_or_zero(vector::cross(info.normal, w.place.axle));
     let speed = vector::dot(forward, body::velocity_at_point(chassis, info.hard));
-    speed * dt / w.settings.radius
+    speed * dt / s.radius
 }
 
-// Rule 10: the wheel turned by a spin.
-pub fn turn_by(w: Wheel, spin: f32) -> Wheel
-    ensures { λ r. ⌜ r ≡ turnedBy binary32 spin w ⌝ }
+// Rule 10: the wheel rotated by a spin.
+fn spun_by(spin: f32, w: Wheel) -> Wheel
+    ensures { λ r. ⌜ r ≡ spunBy binary32 spin w ⌝ }
 {
     let mut m = w.motion;
     let rotation = m.rotation + spin;
@@ -176,12 +149,12 @@ pub fn turn_by(w: Wheel, spin: f32) -> Wheel
 }
 
 // Rule 10: the wheel after the drive.
-pub fn update_rotation(w: Wheel, dt: f32, grounds: bool, chassis: Body) -> Wheel
-    ensures { λ r. ⌜ r ≡ spunOf binary32 dt grounds chassis w ⌝ }
+pub fn update_rotation(s: Settings, dt: f32, contact: bool, chassis: Body, w: Wheel) -> Wheel
+    ensures { λ r. ⌜ r ≡ updateRotation binary32 s dt contact chassis w ⌝ }
 {
-    if grounds {
-        turn_by(w, contact_spin(w, dt, chassis))
+    if contact {
+        spun_by(contact_spin(s, dt, chassis, w), w)
     } else {
-        turn_by(w, w.motion.spin)
+        spun_by(w.motion.spin, w)
     }
 }

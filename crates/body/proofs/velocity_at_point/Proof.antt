@@ -1,10 +1,10 @@
 -- `body::velocity_at_point` meets its contract: the definition, replayed as the code runs. Assumes nothing.
-use Rattle.body.specs.Body.{velocityAt}
+use Rattle.body.specs.Body.{velocityAtPoint}
 use Rattle.body.proofs.velocity_at_point.Statement.{statement}
 use Rattle.body.proofs.velocity_at_point.Tie as tie
 
 returns : tie.Need-returns
-unfolding velocityAt
+unfolding velocityAtPoint
 returns c = rw (← c .before .before .sub .ensures, ← c .before .cross .ensures, ← c .add .ensures)
 
 pub velocity-at-point-spec : {M : Type 1} → statement M

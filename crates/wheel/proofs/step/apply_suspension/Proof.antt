@@ -1,11 +1,11 @@
 -- `wheel::step::apply_suspension` meets its contract: the definition, replayed as the code runs. Assumes nothing.
-use Rattle.wheel.specs.Step.{springOf}
+use Rattle.wheel.specs.Step.{applySuspension}
 use Rattle.wheel.proofs.step.apply_suspension.Statement.{statement}
 use Rattle.wheel.proofs.step.apply_suspension.Tie as tie
 
 returns : tie.Need-returns
-unfolding springOf
-returns c = rw (← c .before .before .before .cut .ensures, ← c .before .before .scale .ensures, ← c .before .scale2 .ensures, ← c .apply-impulse-at-point .ensures)
+unfolding applySuspension
+returns c = rw (← c .before .before .before .cut-of .ensures, ← c .before .before .scale .ensures, ← c .before .scale2 .ensures, ← c .apply-impulse-at-point .ensures)
 
 pub apply-suspension-spec : {M : Type 1} → statement M
 apply-suspension-spec = tie.close (tie.spec (λ c κs. tt) (λ c κs. tt) (λ c κs. tt) (λ c κs. tt) returns)

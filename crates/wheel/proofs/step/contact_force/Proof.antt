@@ -5,7 +5,7 @@ use Rattle.wheel.proofs.step.contact_force.Tie as tie
 
 returns : tie.Need-returns
 unfolding contactForce
-returns c = rw (← c .before .damping .ensures, ← c .suspension-force .ensures)
+returns c = rw (← c .suspension-force .ensures)
 
 pub contact-force-spec : {M : Type 1} → statement M
-contact-force-spec = tie.close (tie.spec (λ c κs. tt) (λ c κs. tt) returns)
+contact-force-spec = tie.close (tie.spec (λ c κs. tt) returns)

@@ -5,7 +5,7 @@ use Rattle.wheel.proofs.step.rolling_demand.Tie as tie
 
 returns : tie.Need-returns
 unfolding rollingDemand
-returns c = rw (← c .before .before .pre, ← c .before .calc-rolling-friction .ensures, ← c .rolling .ensures)
+returns c = rw (← c .before .before .before .before .relative-velocity .ensures, ← c .before .before .before .dot .ensures, ← c .before .before .denominators-of .ensures, ← c .before .rolling-response .ensures, ← c .rolling-of .ensures)
 
 pub rolling-demand-spec : {M : Type 1} → statement M
-rolling-demand-spec = tie.close (tie.spec (λ c κs. tt) (λ c κs. tt) returns)
+rolling-demand-spec = tie.close (tie.spec (λ c κs. tt) (λ c κs. tt) (λ c κs. tt) (λ c κs. tt) (λ c κs. tt) returns)

@@ -1,12 +1,11 @@
 -- `wheel::step::side_point` meets its contract: the definition, replayed as the code runs. Assumes nothing.
 use lib.Ieee.{ofBits}
-use Rattle.real.specs.Number.{ratio}
 use Rattle.wheel.specs.Step.{sidePoint}
 use Rattle.wheel.proofs.step.side_point.Statement.{statement}
 use Rattle.wheel.proofs.step.side_point.Tie as tie
 
 returns : tie.Need-returns
-unfolding sidePoint ofBits ratio
+unfolding sidePoint ofBits
 returns c = rw (← c .before .before .before .sub .ensures, ← c .before .before .dot .ensures, ← c .before .scale .ensures, ← c .sub2 .ensures)
 
 pub side-point-spec : {M : Type 1} → statement M

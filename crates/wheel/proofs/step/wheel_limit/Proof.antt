@@ -5,7 +5,7 @@ use Rattle.wheel.proofs.step.wheel_limit.Tie as tie
 
 returns : tie.Need-returns
 unfolding wheelLimit
-returns c = rw (← c .grip-limit .ensures)
+returns c = rw (← c .limit-of .ensures)
 
 pub wheel-limit-spec : {M : Type 1} → statement M
 wheel-limit-spec = tie.close (tie.spec (λ c κs. tt) returns)

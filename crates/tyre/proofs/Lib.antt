@@ -1,0 +1,5 @@
+pub mod Demand3
+pub mod Brake
+pub mod GripCircle
+pub mod Chain
+pub mod Ranges

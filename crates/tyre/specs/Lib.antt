@@ -1,0 +1,4 @@
+pub mod Suspension
+pub mod Demand
+pub mod Grip
+pub mod Demand3

@@ -1,0 +1,56 @@
+-- A wheel with one part replaced, or with some numbers of a part. Definitions only.
+use lib.Ieee.{Float}
+use Rattle.vector.specs.declared.Vector.{Vector}
+use Rattle.tyre.specs.declared.Approach.{Approach}
+use Rattle.tyre.specs.declared.Friction.{Friction}
+use Rattle.wheel.specs.declared.Settings.{Settings}
+use Rattle.wheel.specs.declared.Controls.{Controls}
+use Rattle.wheel.specs.declared.RayCastInfo.{RayCastInfo}
+use Rattle.wheel.specs.declared.Place.{Place}
+use Rattle.wheel.specs.declared.Motion.{Motion}
+use Rattle.wheel.specs.declared.Wheel.{Wheel}
+
+-- ---- a part
+abbrev pub withInfo : Wheel → RayCastInfo → Wheel
+withInfo w info = record { info = info; place = w .place; settings = w .settings; controls = w .controls; approach = w .approach; motion = w .motion }
+
+abbrev pub withPlace : Wheel → Place → Wheel
+withPlace w place = record { info = w .info; place = place; settings = w .settings; controls = w .controls; approach = w .approach; motion = w .motion }
+
+abbrev pub withSettings : Wheel → Settings → Wheel
+withSettings w settings = record { info = w .info; place = w .place; settings = settings; controls = w .controls; approach = w .approach; motion = w .motion }
+
+abbrev pub withControls : Wheel → Controls → Wheel
+withControls w controls = record { info = w .info; place = w .place; settings = w .settings; controls = controls; approach = w .approach; motion = w .motion }
+
+abbrev pub withApproach : Wheel → Approach → Wheel
+withApproach w approach = record { info = w .info; place = w .place; settings = w .settings; controls = w .controls; approach = approach; motion = w .motion }
+
+abbrev pub withMotion : Wheel → Motion → Wheel
+withMotion w motion = record { info = w .info; place = w .place; settings = w .settings; controls = w .controls; approach = w .approach; motion = motion }
+
+-- ---- some numbers of a part: the hard point; rotation and spin; the spring's force; the impulses with the skid
+abbrev pub withHard : Wheel → Vector → Wheel
+withHard w hard = withInfo w (record { normal = w .info .normal; point = w .info .point; length = w .info .length; hard = hard })
+
+abbrev pub withRotation : Wheel → Float → Float → Wheel
+withRotation w rotation spin =
+    withMotion w (record { rotation = rotation; spin = spin; force = w .motion .force; forward = w .motion .forward; side = w .motion .side; skid = w .motion .skid })
+
+abbrev pub withForce : Wheel → Float → Wheel
+withForce w force =
+    withMotion w (record {
+      rotation = w .motion .rotation;
+      spin = w .motion .spin;
+      force = force;
+      forward = w .motion .forward;
+      side = w .motion .side;
+      skid = w .motion .skid;
+    })
+
+abbrev pub withFriction : Wheel → Friction → Wheel
+withFriction w d =
+    withMotion w (record { rotation = w .motion .rotation; spin = w .motion .spin; force = w .motion .force; forward = d .forward; side = d .side; skid = d .skid })
+
+abbrev pub frictionIn : Wheel → Friction
+frictionIn w = record { forward = w .motion .forward; side = w .motion .side; skid = w .motion .skid }
