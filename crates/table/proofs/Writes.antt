@@ -9,17 +9,17 @@ use lib.Ieee.{Float, nan}
 use Rattle.lists.specs.Counted.{listed}
 use Rattle.lists.specs.Part.{part, paste}
 use Rattle.lists.proofs.Parts.{part-is, paste-is}
-use Rattle.wheel.specs.declared.Friction.{Friction}
+use Rattle.tyre.specs.declared.Friction.{Friction}
 use Rattle.wheel.specs.declared.RayCastInfo.{RayCastInfo}
 use Rattle.wheel.specs.declared.Place.{Place}
 use Rattle.wheel.specs.declared.Settings.{Settings}
 use Rattle.wheel.specs.declared.Controls.{Controls}
-use Rattle.wheel.specs.declared.Approach.{Approach}
+use Rattle.tyre.specs.declared.Approach.{Approach}
 use Rattle.wheel.specs.declared.Wheel.{Wheel}
-use Rattle.wheel.specs.Step.{withFriction}
+use Rattle.wheel.specs.Parts.{withFriction}
 use Rattle.table.specs.Layout as at
 use Rattle.table.specs.Rows.{vectorList, rotationList, vectorAt, rotationAt, infoOf, placeOf, settingsOf, controlsOf, approachIn, motionOf, wheelOf, rowOf, rowStart, wheelAt, putWheel}
-use Rattle.table.specs.Writes.{withInfo, withPlace, withSettings, withControls, withApproach, withForce, withTurn}
+use Rattle.wheel.specs.Parts.{withInfo, withPlace, withSettings, withControls, withApproach, withForce, withRotation}
 use Rattle.table.proofs.Laws.{length-row, wheel-of-row}
 
 -- ---- a list is the list of its elements
@@ -75,10 +75,10 @@ settingsList s =
     vectorList (s .connection)
     ++ vectorList (s .direction)
     ++ vectorList (s .axle)
-    ++ (s .rest ∷ s .travel ∷ s .radius ∷ s .stiffness ∷ s .compression ∷ s .relaxation ∷ s .slip ∷ s .side ∷ [])
+    ++ (s .rest ∷ s .tuning .travel ∷ s .radius ∷ s .tuning .stiffness ∷ s .tuning .compression ∷ s .tuning .damping ∷ s .tuning .slip ∷ s .tuning .sideways ∷ [])
 
 abbrev pub settingsOver : Settings → List Float → List Float → List Float
-settingsOver s ys r = over at.CONNECTION at.ROTATION ys (set r at.MOST (s .most))
+settingsOver s ys r = over at.CONNECTION at.ROTATION ys (set r at.MOST (s .tuning .most))
 
 pub settings-written : (s : Settings) (r ys : List Float) → length r ≡ at.ROW → ys ≡ settingsList s → settingsOver s ys r ≡ rowOf (withSettings (wheelOf r) s)
 unfolding listed rowOf wheelOf infoOf placeOf settingsOf controlsOf approachIn motionOf vectorAt rotationAt
@@ -110,9 +110,9 @@ pub friction-written : (d : Friction) (r : List Float) → length r ≡ at.ROW �
 unfolding listed rowOf wheelOf infoOf placeOf settingsOf controlsOf approachIn motionOf vectorAt rotationAt
 friction-written d r n = row-written (frictionOver d) (λ w. withFriction w d) (λ g. refl) r n
 
-pub turn-written : (x y : Float) (r : List Float) → length r ≡ at.ROW → set (set r at.ROTATION x) at.SPIN y ≡ rowOf (withTurn (wheelOf r) x y)
+pub turn-written : (x y : Float) (r : List Float) → length r ≡ at.ROW → set (set r at.ROTATION x) at.SPIN y ≡ rowOf (withRotation (wheelOf r) x y)
 unfolding listed rowOf wheelOf infoOf placeOf settingsOf controlsOf approachIn motionOf vectorAt rotationAt
-turn-written x y r n = row-written (λ l. set (set l at.ROTATION x) at.SPIN y) (λ w. withTurn w x y) (λ g. refl) r n
+turn-written x y r n = row-written (λ l. set (set l at.ROTATION x) at.SPIN y) (λ w. withRotation w x y) (λ g. refl) r n
 
 -- ---- wheel i of a table, whose row came back written
 pub put-written : (new : Wheel → Wheel) (t ys : List Float) (i : ℕ) → ys ≡ rowOf (new (wheelOf (take ((rowStart i + at.ROW) - rowStart i) (drop (rowStart i) t))))

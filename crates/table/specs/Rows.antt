@@ -14,7 +14,7 @@ use Rattle.wheel.specs.declared.Settings.{Settings}
 use Rattle.wheel.specs.declared.Controls.{Controls}
 use Rattle.wheel.specs.declared.RayCastInfo.{RayCastInfo}
 use Rattle.wheel.specs.declared.Place.{Place}
-use Rattle.wheel.specs.declared.Approach.{Approach}
+use Rattle.tyre.specs.declared.Approach.{Approach}
 use Rattle.wheel.specs.declared.Motion.{Motion}
 use Rattle.wheel.specs.declared.Wheel.{Wheel}
 use Rattle.table.specs.Layout as at
@@ -45,14 +45,16 @@ settingsOf r = record {
   direction = vectorAt r at.DIRECTION;
   axle = vectorAt r at.AXLE;
   rest = numberAt r at.REST;
-  travel = numberAt r at.TRAVEL;
   radius = numberAt r at.RADIUS;
-  stiffness = numberAt r at.STIFFNESS;
-  compression = numberAt r at.COMPRESSION;
-  relaxation = numberAt r at.RELAXATION;
-  slip = numberAt r at.SLIP;
-  side = numberAt r at.SIDE-STIFFNESS;
-  most = numberAt r at.MOST;
+  tuning = record {
+    stiffness = numberAt r at.STIFFNESS;
+    compression = numberAt r at.COMPRESSION;
+    damping = numberAt r at.RELAXATION;
+    travel = numberAt r at.TRAVEL;
+    sideways = numberAt r at.SIDE-STIFFNESS;
+    slip = numberAt r at.SLIP;
+    most = numberAt r at.MOST;
+  };
 }
 
 unfoldable pub controlsOf : List Float → Controls
@@ -96,9 +98,9 @@ rowOf w =
     ++ vectorList (w .settings .connection)
     ++ vectorList (w .settings .direction)
     ++ vectorList (w .settings .axle)
-    ++ (w .settings .rest ∷ w .settings .travel ∷ w .settings .radius ∷ w .settings .stiffness ∷ [])
-    ++ (w .settings .compression ∷ w .settings .relaxation ∷ w .settings .slip ∷ w .settings .side ∷ [])
-    ++ (w .motion .rotation ∷ w .motion .spin ∷ w .settings .most ∷ w .motion .forward ∷ w .motion .side ∷ [])
+    ++ (w .settings .rest ∷ w .settings .tuning .travel ∷ w .settings .radius ∷ w .settings .tuning .stiffness ∷ [])
+    ++ (w .settings .tuning .compression ∷ w .settings .tuning .damping ∷ w .settings .tuning .slip ∷ w .settings .tuning .sideways ∷ [])
+    ++ (w .motion .rotation ∷ w .motion .spin ∷ w .settings .tuning .most ∷ w .motion .forward ∷ w .motion .side ∷ [])
     ++ rotationList (w .controls .steering)
     ++ (w .controls .engine ∷ w .controls .brake ∷ w .approach .inverse ∷ w .approach .velocity ∷ w .motion .force ∷ w .motion .skid ∷ [])
 

@@ -2,13 +2,14 @@
 use super::layout::*;
 use body::Body;
 use body::Chassis;
+use tyre::Approach;
+use tyre::Friction;
+use tyre::WheelTuning;
 use vector::Inertia;
 use vector::Pose;
 use vector::Rotation;
 use vector::Vector;
-use wheel::Approach;
 use wheel::Controls;
-use wheel::Friction;
 use wheel::Motion;
 use wheel::Place;
 use wheel::RayCastInfo;
@@ -17,9 +18,9 @@ use wheel::Wheel;
 ghost use mathlib.Core.Path.{_≡_};
 ghost use Prim.Native.Nat.{ℕ, _+_, _*_, _<_, _≤_};
 ghost use lib.ListN.{length};
-ghost use Rattle.wheel.specs.Step.{moving, withFriction};
+ghost use Rattle.wheel.specs.Parts.{withMotion, withFriction};
 ghost use Rattle.table.specs.Layout as at;
-ghost use Rattle.table.specs.Writes.{withInfo, withPlace, withSettings, withControls, withApproach, withForce, withTurn};
+ghost use Rattle.wheel.specs.Parts.{withInfo, withPlace, withSettings, withControls, withApproach, withForce, withRotation};
 ghost use Rattle.table.specs.Rows.{vectorAt, rotationAt, inertiaAt, infoOf, placeOf, settingsOf, controlsOf, approachIn, motionOf, wheelOf, rowOf, wheelAt, putWheel, chassisOf, chassisList, chassisAt, putChassis, bodyOf, bodyAt};
 
 // Copies src over dst.
@@ -113,14 +114,16 @@ pub fn read_settings(row: &[f32]) -> Settings
         direction: vector_at(row, DIRECTION),
         axle: vector_at(row, AXLE),
         rest: row[REST],
-        travel: row[TRAVEL],
         radius: row[RADIUS],
-        stiffness: row[STIFFNESS],
-        compression: row[COMPRESSION],
-        relaxation: row[RELAXATION],
-        slip: row[SLIP],
-        side: row[SIDE_STIFFNESS],
-        most: row[MOST],
+        tuning: WheelTuning {
+            stiffness: row[STIFFNESS],
+            compression: row[COMPRESSION],
+            damping: row[RELAXATION],
+            travel: row[TRAVEL],
+            sideways: row[SIDE_STIFFNESS],
+            slip: row[SLIP],
+            most: row[MOST],
+        },
     }
 }
 
@@ -128,10 +131,11 @@ pub fn read_controls(row: &[f32]) -> Controls
     requires { ⌜ length (now row) ≡ at.ROW ⌝ }
     ensures { λ r. ⌜ r ≡ controlsOf (now (row .entry)) ⌝ }
 {
+    let steering = rotation_at(row, STEERING);
     Controls {
-        steering: rotation_at(row, STEERING),
         engine: row[ENGINE],
         brake: row[BRAKE],
+        steering,
     }
 }
 
@@ -239,7 +243,7 @@ pub fn write_friction(row: &mut [f32], d: Friction)
 // The row with another rotation and spin.
 pub fn write_turn(row: &mut [f32], rotation: f32, spin: f32)
     requires { ⌜ length (now row) ≡ at.ROW ⌝ }
-    ensures { λ _. ⌜ now (row .exit) ≡ rowOf (withTurn (wheelOf (now (row .entry))) rotation spin) ⌝ }
+    ensures { λ _. ⌜ now (row .exit) ≡ rowOf (withRotation (wheelOf (now (row .entry))) rotation spin) ⌝ }
 {
     row[ROTATION] = rotation;
     row[SPIN] = spin;
@@ -269,7 +273,8 @@ pub fn write_settings(row: &mut [f32], s: Settings)
     requires { ⌜ length (now row) ≡ at.ROW ⌝ }
     ensures { λ _. ⌜ now (row .exit) ≡ rowOf (withSettings (wheelOf (now (row .entry))) s) ⌝ }
 {
-    row[MOST] = s.most;
+    let t = s.tuning;
+    row[MOST] = t.most;
     let numbers = [
         s.connection.x,
         s.connection.y,
@@ -281,13 +286,13 @@ pub fn write_settings(row: &mut [f32], s: Settings)
         s.axle.y,
         s.axle.z,
         s.rest,
-        s.travel,
+        t.travel,
         s.radius,
-        s.stiffness,
-        s.compression,
-        s.relaxation,
-        s.slip,
-        s.side,
+        t.stiffness,
+        t.compression,
+        t.damping,
+        t.slip,
+        t.sideways,
     ];
     copy(&mut row[CONNECTION..ROTATION], &numbers);
 }
@@ -311,7 +316,7 @@ pub fn write_controls(row: &mut [f32], q: Controls)
 // The row with other motion.
 pub fn write_motion(row: &mut [f32], m: Motion)
     requires { ⌜ length (now row) ≡ at.ROW ⌝ }
-    ensures { λ _. ⌜ now (row .exit) ≡ rowOf (moving (wheelOf (now (row .entry))) m) ⌝ }
+    ensures { λ _. ⌜ now (row .exit) ≡ rowOf (withMotion (wheelOf (now (row .entry))) m) ⌝ }
 {
     let d = Friction {
         forward: m.forward,
@@ -396,7 +401,7 @@ pub fn put_friction(table: &mut [f32], i: usize, d: Friction)
 // The table with another rotation and spin of wheel i.
 pub fn put_turn(table: &mut [f32], i: usize, rotation: f32, spin: f32)
     requires { ⌜ (length (now table) ≡ at.SIZE) × (i < at.WHEELS) ⌝ }
-    ensures { λ _. ⌜ now (table .exit) ≡ putWheel (now (table .entry)) i (withTurn (wheelAt (now (table .entry)) i) rotation spin) ⌝ }
+    ensures { λ _. ⌜ now (table .exit) ≡ putWheel (now (table .entry)) i (withRotation (wheelAt (now (table .entry)) i) rotation spin) ⌝ }
 {
     let a = KEPT + i * ROW;
     let e = a + ROW;

@@ -1,6 +1,6 @@
 -- `table::rows::put_contact` meets its contract: the lent row comes back written. Assumes nothing.
 use borrow.Author.Needs.{needs}
-use Rattle.table.specs.Writes.{withInfo, withApproach}
+use Rattle.wheel.specs.Parts.{withInfo, withApproach}
 use Rattle.table.proofs.Writes.{put-written}
 use Rattle.table.proofs.rows.put_contact.Statement.{statement}
 use Rattle.table.proofs.rows.put_contact.Tie as tie

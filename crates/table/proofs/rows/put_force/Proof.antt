@@ -1,6 +1,6 @@
 -- `table::rows::put_force` meets its contract: the lent row comes back written. Assumes nothing.
 use borrow.Author.Needs.{needs}
-use Rattle.table.specs.Writes.{withForce}
+use Rattle.wheel.specs.Parts.{withForce}
 use Rattle.table.proofs.Writes.{put-written}
 use Rattle.table.proofs.rows.put_force.Statement.{statement}
 use Rattle.table.proofs.rows.put_force.Tie as tie

@@ -1,6 +1,6 @@
 -- `table::rows::put_friction` meets its contract: the lent row comes back written. Assumes nothing.
 use borrow.Author.Needs.{needs}
-use Rattle.wheel.specs.Step.{withFriction}
+use Rattle.wheel.specs.Parts.{withFriction}
 use Rattle.table.proofs.Writes.{put-written}
 use Rattle.table.proofs.rows.put_friction.Statement.{statement}
 use Rattle.table.proofs.rows.put_friction.Tie as tie

@@ -1,6 +1,6 @@
 -- `table::rows::put_turn` meets its contract: the lent row comes back written. Assumes nothing.
 use borrow.Author.Needs.{needs}
-use Rattle.table.specs.Writes.{withTurn}
+use Rattle.wheel.specs.Parts.{withRotation}
 use Rattle.table.proofs.Writes.{put-written}
 use Rattle.table.proofs.rows.put_turn.Statement.{statement}
 use Rattle.table.proofs.rows.put_turn.Tie as tie
@@ -8,7 +8,7 @@ use Rattle.table.proofs.rows.put_turn.Tie as tie
 returns : tie.Need-returns
 returns c =
     let a = c .before .before .before .before .before .args in
-    put-written (λ w. withTurn w (a .rotation) (a .spin)) (a .table .now) _ (a .i) (c .before .before .write-turn .ensures)
+    put-written (λ w. withRotation w (a .rotation) (a .spin)) (a .table .now) _ (a .i) (c .before .before .write-turn .ensures)
 
 pub put-turn-spec : {M : Type 1} → statement M
 put-turn-spec =

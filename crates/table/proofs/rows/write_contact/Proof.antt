@@ -1,6 +1,6 @@
 -- `table::rows::write_contact` meets its contract: the info is written, then the approach. Assumes nothing.
 use mathlib.Core.Path.{_∙_}
-use Rattle.table.specs.Writes.{withApproach}
+use Rattle.wheel.specs.Parts.{withApproach}
 use Rattle.table.proofs.Writes.{written-after}
 use Rattle.table.proofs.rows.write_contact.Statement.{statement}
 use Rattle.table.proofs.rows.write_contact.Tie as tie

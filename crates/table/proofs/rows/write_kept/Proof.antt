@@ -1,6 +1,6 @@
 -- `table::rows::write_kept` meets its contract: the place is written, then the settings, then the controls. Assumes nothing.
 use borrow.Author.Needs.{needs}
-use Rattle.table.specs.Writes.{withSettings, withControls}
+use Rattle.wheel.specs.Parts.{withSettings, withControls}
 use Rattle.table.proofs.Writes.{written-after}
 use Rattle.table.proofs.rows.write_kept.Statement.{statement}
 use Rattle.table.proofs.rows.write_kept.Tie as tie

@@ -1,7 +1,7 @@
 -- `table::rows::write_motion` meets its contract: the turn is written, then the force, then the friction. Assumes nothing.
 use borrow.Author.Needs.{needs}
-use Rattle.wheel.specs.Step.{withFriction}
-use Rattle.table.specs.Writes.{withForce}
+use Rattle.wheel.specs.Parts.{withFriction}
+use Rattle.wheel.specs.Parts.{withForce}
 use Rattle.table.proofs.Writes.{written-after}
 use Rattle.table.proofs.rows.write_motion.Statement.{statement}
 use Rattle.table.proofs.rows.write_motion.Tie as tie

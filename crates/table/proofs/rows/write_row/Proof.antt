@@ -1,7 +1,7 @@
 -- `table::rows::write_row` meets its contract: each part is written, so the row is that of the wheel of all parts. Assumes nothing.
 use borrow.Author.Needs.{needs}
-use Rattle.wheel.specs.Step.{moving}
-use Rattle.table.specs.Writes.{withInfo, withApproach}
+use Rattle.wheel.specs.Parts.{withMotion}
+use Rattle.wheel.specs.Parts.{withInfo, withApproach}
 use Rattle.table.proofs.Writes.{written-after}
 use Rattle.table.proofs.rows.write_row.Statement.{statement}
 use Rattle.table.proofs.rows.write_row.Tie as tie
@@ -11,7 +11,7 @@ returns c =
     let second = c .before .before .before .before .before .before in
     let first = second .before .before .before .before in
     let a = first .before .before .before .args in
-    written-after (λ w. moving w (a .w .motion)) _ _ _ (c .before .before .write-motion .ensures)
+    written-after (λ w. withMotion w (a .w .motion)) _ _ _ (c .before .before .write-motion .ensures)
     (written-after (λ w. withApproach (withInfo w (a .w .info)) (a .w .approach)) _ _ _ (second .write-contact .ensures) (first .write-kept .ensures))
 
 pub write-row-spec : {M : Type 1} → statement M

@@ -8,16 +8,16 @@ use Rattle.table.proofs.rows.write_settings.Statement.{statement}
 use Rattle.table.proofs.rows.write_settings.Tie as tie
 
 part-copy-end : tie.Need-part-copy-end
-part-copy-end c = settings-fit (c .before .args .s .most) (c .before .args .row .now) (c .before .pre)
+part-copy-end c = settings-fit (c .before .before .args .s .tuning .most) (c .before .before .args .row .now) (c .before .before .pre)
 
 returns : tie.Need-returns
 returns c =
-    let s = c .before .before .before .before .before .before in
+    let s = c .before .before .before .before .before .before .before in
     settings-written (s .args .s) (s .args .row .now) _ (s .pre) (c .before .before .copy .ensures)
 
 same-length : tie.Need-same-length
 same-length c =
-    let s = c .before .before .before .before .before .before in
+    let s = c .before .before .before .before .before .before .before in
     ap length (settings-written (s .args .s) (s .args .row .now) _ (s .pre) (c .before .before .copy .ensures)) ∙ length-row _ ∙ sym (s .pre)
 
 pub write-settings-spec : {M : Type 1} → statement M
