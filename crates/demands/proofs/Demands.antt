@@ -17,11 +17,13 @@ use Rattle.table.specs.Layout as at
 use Rattle.passes.specs.Frame.{Frame}
 use Rattle.refusals.specs.Shape.{countOf, upOf, forwardOf}
 use Rattle.refusals.specs.After.{After, after, settled, marked}
+use Rattle.refusals.proofs.Settled.{settled-refused, settled-done, settled-number}
 use Rattle.vehicle.specs.declared.Reading.{Reading}
 use Rattle.vehicle.specs.SetUp.{setUp, refuseSetUp}
 use Rattle.vehicle.specs.Add.{addWheel, refuseAdd}
 use Rattle.vehicle.specs.Controls.{setControls, refuseControls}
 use Rattle.vehicle.specs.Read.{readWheel, refuseRead, notRead, readingOf}
+use Rattle.vehicle.proofs.Accepted.{read-says}
 use Rattle.drive.specs.declared.Aimed.{Aimed}
 use Rattle.drive.specs.declared.Driven.{Driven}
 use Rattle.drive.specs.Aim.{aimOf, refuseAim, notAimed, aimedBy, aimedTable}
@@ -29,8 +31,6 @@ use Rattle.drive.specs.Drive.{driveOf, refuseDrive, notDriven, drivenBy, wholeS
 use Rattle.demands.specs.History.{State, Call, SetUp, ReadWheel, answered, accepted, runAll, drivenSince, countAfter, readAfter}
 use Rattle.demands.specs.Same.{Same}
 use Rattle.demands.specs.Impulses.{Step, Accepted, Stepped, Grounded, forwardDemand, sideDemand, gripLimit, forwardImpulse, sideImpulse, brakeOf, leastLimit, slidesAt, poweredAt, Alike}
-use Rattle.demands.proofs.Settled.{settled-refused, settled-done, settled-number, same-of-after}
-use Rattle.demands.proofs.Accepted.{read-says}
 use Rattle.demands.proofs.Marks.{history-from-set-up}
 use Rattle.demands.proofs.Five.{five-of-not-driven, not-five-of-driven}
 use Rattle.demands.proofs.Numbers.{number-le-ten}
@@ -64,7 +64,7 @@ module _ (f : Format) (t : List Float) (m : List ℕ) where
 
   -- ".. and changes no lent number": a refusal answers its number, zeros elsewhere, and leaves the table and the whole numbers as they were. Once for every call, and for each.
   pub refusal-changes-nothing : {R : Type 0} (number : ℕ) (refused : ℕ → R) (done : After R) → (number ≡ 0 → ⊥) → settled number refused done t m ≡ after (refused number) t m
-  refusal-changes-nothing number refused done h = settled-refused number refused done t m h
+  refusal-changes-nothing number refused done h = sym (settled-refused number number refused (refused number) done t m refl h refl)
 
   pub set-up-refused : (up forward : ℕ) → (refuseSetUp t m up forward ≡ 0 → ⊥) → setUp t m up forward ≡ after (refuseSetUp t m up forward) t m
   unfolding setUp
@@ -122,7 +122,9 @@ module _ (f : Format) (lent : State) (up forward : ℕ) (l : List Call) (set-up 
 -- ---- "Each public function's contract determines the full reply and each lent number afterwards, refusals too; show that two replies it allows are equal" (document 01): a contract
 -- is one equation between what a call answers and leaves and its definition, and any two that meet it are the same. Once for every call, and for each.
 pub contract-determines : {R : Type 0} {x : After R} {r r' : R} {t t' : List Float} {m m' : List ℕ} → after r t m ≡ x → after r' t' m' ≡ x → Same r r' t t' m m'
-contract-determines p q = same-of-after p q
+contract-determines {R} p q =
+    let e = p ∙ sym q in
+    record { reply = ap (λ (y : After R). y .reply) e; table = ap (λ (y : After R). y .table) e; whole = ap (λ (y : After R). y .whole) e }
 
 module _ (f : Format) (t : List Float) (m : List ℕ) {t₁ t₂ : List Float} {m₁ m₂ : List ℕ} where
   pub set-up-determined : (up forward : ℕ) {r₁ r₂ : ℕ} → after r₁ t₁ m₁ ≡ setUp t m up forward → after r₂ t₂ m₂ ≡ setUp t m up forward → Same r₁ r₂ t₁ t₂ m₁ m₂
@@ -149,12 +151,12 @@ module _ (f : Format) (t : List Float) (m : List ℕ) where
   pub accepted-drive : (r : Frame) (n : ℕ) → refuseDrive f t m r n ≡ 0
       → driveOf f t m r n ≡ after (drivenBy t n (wholeStep f t (upOf m) r n)) (wholeStep f t (upOf m) r n .table) (marked m at.DRIVEN)
   unfolding driveOf
-  accepted-drive r n h = settled-done _ notDriven _ t m h
+  accepted-drive r n h = sym (settled-done _ _ notDriven _ _ t m refl h refl)
 
   pub accepted-aim : (c : Chassis) → refuseAim f t m c ≡ 0
       → aimOf f t m c ≡ after (aimedBy f (forwardOf m) c (countOf m) (aimedTable f c (countOf m) t)) (aimedTable f c (countOf m) t) (marked m at.AIMED)
   unfolding aimOf
-  accepted-aim c h = settled-done _ notAimed _ t m h
+  accepted-aim c h = sym (settled-done _ _ notAimed _ _ t m refl h refl)
 
 -- ---- Demand 3. "Each tyre gets its own grip and no more." `d` is a drive, with what it is lent and handed; i is the number of a wheel.
 module _ (f : Format) (d : Step) (i : ℕ) where

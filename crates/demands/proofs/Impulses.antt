@@ -41,11 +41,11 @@ use Rattle.passes.specs.Passes.{sprung, demandAt, admits, admittedAt, demandsAd
 use Rattle.refusals.specs.Shape.{upOf}
 use Rattle.refusals.specs.After.{After}
 use Rattle.refusals.proofs.Says.{wheel-says, stored-settings-say, unit-says}
+use Rattle.refusals.proofs.Settled.{settled-done}
 use Rattle.drive.specs.declared.Driven.{Driven}
 use Rattle.drive.specs.Drive.{driveOf, notDriven, wholeStep}
+use Rattle.drive.proofs.Accepted.{DriveTested, drive-says}
 use Rattle.demands.specs.Impulses.{Step, Accepted, Stepped, Grounded, storedWheel, demandingWheel, drivenWheel, forwardDemand, sideDemand, gripLimit, forwardImpulse, sideImpulse, brakeOf, poweredAt, Alike}
-use Rattle.demands.proofs.Settled.{settled-done}
-use Rattle.demands.proofs.Accepted.{Driving, drive-says}
 use Rattle.demands.proofs.Passed.{sprungWheel, sprung-keeps-controls, sprung-keeps-settings, wheel-demanded, friction-stepped, friction-alone}
 
 -- ---- one wheel: its demands and its limit are numbers of the format
@@ -98,28 +98,28 @@ abbrev groundedIn : Step → ℕ
 groundedIn d = groundedWheels (d .frame .answers) (d .n)
 
 module _ (f : Format) (d : Step) (accepted : Accepted f d) where
-  tests : Driving f (d .table) (d .whole) (d .frame) (d .n)
+  tests : DriveTested f (d .table) (d .whole) (d .frame) (d .n)
   tests = drive-says f (d .table) (d .whole) (d .frame) (d .n) accepted
 
   room : d .n ≤ at.WHEELS
-  room = let e = tests .each in let l = tests .shape .room in omega arith
+  room = let e = tests .early .frame .each in let l = tests .early .frame .shape .room in omega arith
 
   driven-table : driveOf f (d .table) (d .whole) (d .frame) (d .n) .table ≡ wholeStep f (d .table) (upOf (d .whole)) (d .frame) (d .n) .table
   unfolding driveOf
-  driven-table = ap (λ (x : After Driven). x .table) (settled-done _ notDriven _ (d .table) (d .whole) accepted)
+  driven-table = ap (λ (x : After Driven). x .table) (sym (settled-done _ _ notDriven _ _ (d .table) (d .whole) refl accepted refl))
 
   module _ (i : ℕ) (counted : i < d .n) where
     -- its impulses and its skid: its demands, rescaled; and those of the wheel alone
     pub friction-of-demand : frictionIn (drivenWheel f d i) ≡ rescaledOf f (frictionIn (demandingWheel f d i))
-    friction-of-demand = rw driven-table (friction-stepped f (d .frame) (d .n) room (d .table) (tests .shape .sized) i counted (upOf (d .whole)))
+    friction-of-demand = rw driven-table (friction-stepped f (d .frame) (d .n) room (d .table) (tests .early .frame .shape .sized) i counted (upOf (d .whole)))
 
     pub friction-of-wheel : frictionIn (drivenWheel f d i) ≡ impulsesOf f (chassisAt (d .table) .body) (bodyIn f d) (d .frame .dt) (groundIn d i) (groundedIn d) (answerAt (d .frame .answers) i) (storedWheel d i)
-    friction-of-wheel = rw driven-table (friction-alone f (d .frame) (d .n) room (d .table) (tests .shape .sized) i counted (upOf (d .whole)))
+    friction-of-wheel = rw driven-table (friction-alone f (d .frame) (d .n) room (d .table) (tests .early .frame .shape .sized) i counted (upOf (d .whole)))
 
     -- the wheel at its demands
     demand-of : demandingWheel f d i ≡ withFriction (sprungAt f d i) (frictionOf f (d .frame .dt) (bodyIn f d) (groundedAt (d .frame .answers) i) (groundIn d i) (groundedIn d) (sprungAt f d i))
     unfolding demandAt
-    demand-of = wheel-demanded f (d .frame) (d .n) room (d .table) (tests .shape .sized) i counted
+    demand-of = wheel-demanded f (d .frame) (d .n) room (d .table) (tests .early .frame .shape .sized) i counted
 
 -- the stored brake: a number of the format, which refusals 2 and 10 let through
 brake-at : (t : List Float) (i : ℕ) → wheelAt t i .controls .brake ≡ getD t (rowStart i + at.BRAKE) nan
@@ -134,9 +134,9 @@ brake-of-stepped {f} {d} {i} s =
     record {
       admitted = record {
         held = rw (brake-at (d .table) i) (s .held (rowStart i + at.BRAKE));
-        bounded = rw (brake-at (d .table) i) (stored-within-says (d .table) (d .n) (rowStart i + at.BRAKE) (tested .shape .sized) l (tested .stored) (omega arith));
+        bounded = rw (brake-at (d .table) i) (stored-within-says (d .table) (d .n) (rowStart i + at.BRAKE) (tested .early .frame .shape .sized) l (tested .early .stored) (omega arith));
       };
-      at-least = wheel-says f (d .table) i (stored-settings-say f (d .table) (d .n) i (tested .ranges) u) .controls .brake;
+      at-least = wheel-says f (d .table) i (stored-settings-say f (d .table) (d .n) i (tested .early .ranges) u) .controls .brake;
     }
 
 -- ---- a grounded wheel
@@ -207,8 +207,8 @@ module _ (f : Format) (d : Step) (i : ℕ) (g : Grounded f d i) where
   limit-at-least =
       let tested = tests f d (g .stepped .accepted) in
       let w = sprungAt f d i in
-      let slip : le zero (w .settings .slip) ≡ true = rw (sprung-keeps-settings f _ _ (storedWheel d i)) (wheel-says f (d .table) i (stored-settings-say f (d .table) (d .n) i (tested .ranges) (g .stepped .counted)) .settings .slip) in
-      rw limit-is (limit-not-negative f (w .motion .force) (d .frame .dt) (w .settings .slip) (force-not-negative f _ _ (storedWheel d i)) (unit-says (d .frame .dt) (tested .unit) .above) slip (rw limit-is at limit-admitted))
+      let slip : le zero (w .settings .slip) ≡ true = rw (sprung-keeps-settings f _ _ (storedWheel d i)) (wheel-says f (d .table) i (stored-settings-say f (d .table) (d .n) i (tested .early .ranges) (g .stepped .counted)) .settings .slip) in
+      rw limit-is (limit-not-negative f (w .motion .force) (d .frame .dt) (w .settings .slip) (force-not-negative f _ _ (storedWheel d i)) (unit-says (d .frame .dt) (tested .early .unit) .above) slip (rw limit-is at limit-admitted))
 
 -- ---- an unpowered wheel, grounded or not
 rolled-unpowered : (f : Format) (dt engine brake uncut : Float) → ne engine zero ≡ false → rollingOf f dt engine brake uncut ≡ brakedOf brake uncut

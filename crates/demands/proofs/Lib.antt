@@ -1,7 +1,5 @@
 -- The three demands, and the laws that they rest on.
 pub mod Demands
-pub mod Settled
-pub mod Accepted
 pub mod Shapes
 pub mod Sizes
 pub mod Marks

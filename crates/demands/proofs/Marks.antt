@@ -16,15 +16,16 @@ use Rattle.table.proofs.Laws.{length-put}
 use Rattle.refusals.specs.Shape.{countOf, markOf}
 use Rattle.refusals.specs.After.{After, after, settled, marked}
 use Rattle.refusals.proofs.Says.{Shape}
+use Rattle.refusals.proofs.Settled.{settled-refused, settled-done, settled-number}
 use Rattle.vehicle.specs.SetUp.{setUp, refuseSetUp}
 use Rattle.vehicle.specs.Add.{addWheel, refuseAdd, newWheel}
 use Rattle.vehicle.specs.Controls.{setControls, refuseControls, unaimed, withControls}
 use Rattle.vehicle.specs.Read.{readWheel, refuseRead, notRead, readingOf}
+use Rattle.vehicle.proofs.Accepted.{SetUpTested, set-up-says, add-says, set-controls-says}
 use Rattle.drive.specs.Aim.{aimOf, refuseAim, notAimed, aimedBy, aimedTable}
 use Rattle.drive.specs.Drive.{driveOf, refuseDrive, notDriven, drivenBy}
+use Rattle.drive.proofs.Accepted.{aim-says, drive-says}
 use Rattle.demands.specs.History.{State, state, Call, SetUp, AddWheel, SetControls, Aim, Drive, ReadWheel, answered, accepted, run, runAll, drives, undrives, noneUndrives, drivenSince}
-use Rattle.demands.proofs.Settled.{settled-refused, settled-done, settled-number}
-use Rattle.demands.proofs.Accepted.{Axes, set-up-says, add-says, controls-say, aim-says, drive-says}
 use Rattle.demands.proofs.Shapes.{shape-other-table, shape-marked, shape-counted, mark-marked}
 use Rattle.demands.proofs.Sizes.{length-aimed, length-whole-step}
 
@@ -56,18 +57,18 @@ module _ {R : Type 0} (of : R → ℕ) (makes takes : Bool) (number : ℕ) (refu
       either : (b : Bool) → eqb number 0 ≡ b → Left makes takes m (after (of (x .reply)) (x .table) (x .whole))
       either true h =
           let z = eqb-true number 0 h in
-          let y : x ≡ done = e ∙ settled-done number refused done t m z in
+          let y : x ≡ done = e ∙ sym (settled-done number number refused done done t m refl z refl) in
           rw y (record { shape = shape z; mark = mark z ∙ done-mark makes takes (isDriven m) _ (eq-eqb _ 0 q) })
       either false h =
           let z : number ≡ 0 → ⊥ = eqb-false number 0 h in
-          let y : x ≡ after (refused number) t m = e ∙ settled-refused number refused done t m z in
+          let y : x ≡ after (refused number) t m = e ∙ sym (settled-refused number number refused (refused number) done t m refl z refl) in
           rw y (record { shape = s; mark = kept-mark makes takes (isDriven m) _ (ap (λ (k : ℕ). eqb k 0) p ∙ h) })
 
 -- ---- each call
 abbrev LeftBy : Format → Call → State → Type 0
 LeftBy f c s = Left (drives c) (undrives c) (s .whole) (answered f c s)
 
-set-up-shape : (up forward : ℕ) → Axes up forward → Shape (replicate at.SIZE real.zero) (0 ∷ at.NEW ∷ up ∷ forward ∷ [])
+set-up-shape : {t : List Float} {m : List ℕ} (up forward : ℕ) → SetUpTested t m up forward → Shape (replicate at.SIZE real.zero) (0 ∷ at.NEW ∷ up ∷ forward ∷ [])
 set-up-shape up forward a =
     record { sized = length-replicate at.SIZE real.zero; four = refl; room = omega arith; marked = omega arith; up = a .up-axis; forward = a .forward-axis }
 
@@ -105,28 +106,28 @@ left-by f (AddWheel settings) s h =
     (λ z.
     let a = add-says (s .table) (s .whole) settings z in
     shape-marked
-    (shape-counted (shape-other-table (a .shape) (putWheel (s .table) (countOf (s .whole)) (newWheel settings)) (length-put (s .table) (countOf (s .whole)) (newWheel settings) (a .shape .sized) (a .room)))
+    (shape-counted (shape-other-table (a .shape) (putWheel (s .table) (countOf (s .whole)) (newWheel settings)) (length-put (s .table) (countOf (s .whole)) (newWheel settings) (a .shape .sized) (a .free)))
     (countOf (s .whole) + 1)
-    (let r = a .room in omega arith)) at.NEW (omega arith))
+    (let r = a .free in omega arith)) at.NEW (omega arith))
     (λ z. marked-not-driven (set (s .whole) at.COUNT (countOf (s .whole) + 1)) at.NEW (length-set (s .whole) at.COUNT (countOf (s .whole) + 1) ∙ h .four) (omega arith))
     _ refl
 left-by f (SetControls i controls) s h =
     left-of-settled (λ n. n) _ _ (refuseControls f (s .table) (s .whole) i controls) (λ n. n) _ (s .table) (s .whole) refl refl h
     (λ z.
-    let a = controls-say f (s .table) (s .whole) i controls z in
+    let a = set-controls-says f (s .table) (s .whole) i controls z in
     shape-other-table (unaimed-shape (a .shape)) (putWheel (s .table) i (withControls (wheelAt (s .table) i) controls))
     (length-put (s .table) i (withControls (wheelAt (s .table) i) controls) (a .shape .sized) (let u = a .used in let r = a .shape .room in omega arith)))
     (λ z. unaimed-driven (s .whole) (h .four)) _ refl
 left-by f (Aim chassis) s h =
     left-of-settled (λ r. r .number) _ _ (refuseAim f (s .table) (s .whole) chassis) notAimed _ (s .table) (s .whole) refl refl h
     (λ z.
-    let a = aim-says f (s .table) (s .whole) chassis z in
+    let a = aim-says f (s .table) (s .whole) chassis z .shape in
     shape-marked (shape-other-table a (aimedTable f chassis (countOf (s .whole)) (s .table)) (length-aimed f chassis (countOf (s .whole)) (s .table) (a .sized) (a .room))) at.AIMED (omega arith))
     (λ z. marked-not-driven (s .whole) at.AIMED (h .four) (omega arith)) _ refl
 left-by f (Drive frame n) s h =
     left-of-settled (λ r. r .number) _ _ (refuseDrive f (s .table) (s .whole) frame n) notDriven _ (s .table) (s .whole) refl refl h
     (λ z.
-    let a = drive-says f (s .table) (s .whole) frame n z in
+    let a = drive-says f (s .table) (s .whole) frame n z .early .frame in
     shape-marked (shape-other-table (a .shape) _ (length-whole-step f (s .table) _ frame n (a .shape .sized) (let e = a .each in let r = a .shape .room in omega arith))) at.DRIVEN (omega arith))
     (λ z. marked-driven (s .whole) (h .four)) _ refl
 left-by f (ReadWheel i) s h =
@@ -173,13 +174,13 @@ pub record FromSetUp (f : Format) (l : List Call) (s : State) : Type 0 where
 abbrev fresh : ℕ → ℕ → State
 fresh up forward = state (replicate at.SIZE real.zero) (0 ∷ at.NEW ∷ up ∷ forward ∷ [])
 
-set-up-leaves : (f : Format) (lent : State) (up forward : ℕ) → accepted f (SetUp up forward) lent ≡ true → (run f (SetUp up forward) lent ≡ fresh up forward) × Axes up forward
+set-up-leaves : (f : Format) (lent : State) (up forward : ℕ) → accepted f (SetUp up forward) lent ≡ true → (run f (SetUp up forward) lent ≡ fresh up forward) × SetUpTested (lent .table) (lent .whole) up forward
 unfolding run accepted answered setUp
 set-up-leaves f lent up forward h =
     let number = refuseSetUp (lent .table) (lent .whole) up forward in
     let done : After ℕ = after 0 (fresh up forward .table) (fresh up forward .whole) in
     let z : number ≡ 0 = sym (settled-number number (λ n. n) done (lent .table) (lent .whole) (λ n. n) refl refl) ∙ eqb-true _ 0 h in
-    (ap (λ (x : After ℕ). state (x .table) (x .whole)) (settled-done number (λ n. n) done (lent .table) (lent .whole) z), set-up-says (lent .table) (lent .whole) up forward z)
+    (ap (λ (x : After ℕ). state (x .table) (x .whole)) (sym (settled-done number number (λ n. n) done done (lent .table) (lent .whole) refl z refl)), set-up-says (lent .table) (lent .whole) up forward z)
 
 pub history-from-set-up : (f : Format) (lent : State) (up forward : ℕ) (l : List Call) → accepted f (SetUp up forward) lent ≡ true → FromSetUp f (SetUp up forward ∷ l) lent
 unfolding runAll drivenSince drives

@@ -12,6 +12,7 @@ use Rattle.lists.specs.All.{all}
 use Rattle.lists.specs.Refusal.{Test, firstFailed}
 use Rattle.lists.proofs.Picks.{pick-true}
 use Rattle.refusals.specs.After.{After, settled}
+use Rattle.refusals.proofs.Settled.{settled-number}
 use Rattle.vehicle.specs.SetUp.{setUp, refuseSetUp}
 use Rattle.vehicle.specs.Add.{addWheel, refuseAdd}
 use Rattle.vehicle.specs.Controls.{setControls, refuseControls}
@@ -19,7 +20,6 @@ use Rattle.vehicle.specs.Read.{readWheel, refuseRead, notRead, readingOf}
 use Rattle.drive.specs.Aim.{aimOf, refuseAim, notAimed, aimedBy, chassisTests, placeTests}
 use Rattle.drive.specs.Drive.{driveOf, refuseDrive, notDriven, drivenBy, earlyTests, frameTests, numberTests, rangeTests, stepTests}
 use Rattle.demands.specs.History.{State, Call, SetUp, AddWheel, SetControls, Aim, Drive, ReadWheel, answered}
-use Rattle.demands.proofs.Settled.{settled-number}
 
 -- a list of refusals with no number above k
 abbrev upTo : ℕ → Test → Bool

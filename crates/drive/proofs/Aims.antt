@@ -1,5 +1,4 @@
--- Laws on an aim. In order: what a chassis that was not refused tells of the shape; how an aim settles, by the number of the refusals that come first and whether what it worked out
--- can be stored. Assumes nothing.
+-- How an aim settles, by the number of the refusals that come first and whether what it worked out can be stored. Assumes nothing.
 use Prim.Native.Nat.{ℕ}
 use mathlib.Core.Bool.{Bool, true, false, not}
 use mathlib.Core.List.{List}
@@ -9,23 +8,18 @@ use native.Mathlib.Omega.{arith}
 use Rattle.lists.specs.Pick.{pick}
 use Rattle.lists.specs.All.{all}
 use Rattle.lists.specs.Refusal.{firstFailed}
-use Rattle.lists.proofs.Picks.{pick-zero, pick-yes, pick-no, told-yes, told-not}
+use Rattle.lists.proofs.Picks.{pick-yes, pick-no, told-yes, told-not}
 use Rattle.lists.proofs.Refusals.{numbered, append-refused-by, append-passed}
 use Rattle.body.specs.declared.Chassis.{Chassis}
 use Rattle.table.specs.Layout as at
 use Rattle.table.specs.Bounds.{storedWithin}
 use Rattle.refusals.specs.Shape.{countOf, forwardOf}
 use Rattle.refusals.specs.After.{after, marked}
-use Rattle.refusals.proofs.Says.{Shape, shape-says}
-use Rattle.refusals.proofs.Settles.{settled-refused, settled-done}
+use Rattle.refusals.proofs.Settled.{settled-refused, settled-done}
 use Rattle.drive.specs.declared.Aimed.{Aimed}
 use Rattle.drive.specs.Aim.{aimedTable, chassisTests, placeTests, refuseAim, notAimed, aimedBy, aimOf}
 
 module _ (f : Format) (t : List Float) (m : List ℕ) (c : Chassis) where
-  pub shape-of-passed : firstFailed (chassisTests f t m c) ≡ 0 → Shape t m
-  unfolding chassisTests firstFailed
-  shape-of-passed h = shape-says t m (pick-zero _ _ _ h .0)
-
   refused-early : (number : ℕ) → number ≡ firstFailed (chassisTests f t m c) → (number ≡ 0 → ⊥) → number ≡ refuseAim f t m c
   unfolding refuseAim
   refused-early number p q = append-refused-by (chassisTests f t m c) (placeTests f c (countOf m) t) number p q

@@ -1,5 +1,5 @@
 -- The laws that the proofs of a frame's calls cite.
+pub mod Accepted
 pub mod Steps
-pub mod Refused
 pub mod Tries
 pub mod Aims

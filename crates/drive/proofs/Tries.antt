@@ -17,10 +17,10 @@ use Rattle.passes.specs.Frame.{Frame}
 use Rattle.passes.specs.Passes.{work, pushedWork, storedWork, demandsAdmitted}
 use Rattle.refusals.specs.Shape.{upOf}
 use Rattle.refusals.specs.After.{after, marked}
-use Rattle.refusals.proofs.Settles.{settled-refused, settled-done}
+use Rattle.refusals.proofs.Settled.{settled-refused, settled-done}
 use Rattle.drive.specs.declared.Driven.{Driven}
 use Rattle.drive.specs.Drive.{demandStep, wholeStep, earlyTests, stepTests, refuseDrive, wakes, notDriven, drivenBy, Tried, tried, tryDrive, driveOf}
-use Rattle.drive.proofs.Refused.{early-numbered}
+use Rattle.drive.proofs.Accepted.{early-numbered}
 
 -- the step: `demanded` and c after the demands, `last` and c' at its end, t' the table as it is left
 module _ (f : Format) (t t' demanded : List Float) (up : ℕ) (r : Frame) (n : ℕ) (c : Chassis) (admitted : Bool) where

@@ -8,7 +8,7 @@ use lib.Ieee.{Float}
 use Rattle.lists.specs.Pick.{pick}
 use Rattle.lists.specs.Refusal.{Test, _or_, firstFailed}
 use Rattle.refusals.specs.After.{After, after, settled}
-use Rattle.refusals.proofs.Settles.{settled-done}
+use Rattle.refusals.proofs.Settled.{settled-done}
 use Rattle.exports.specs.Ends.{flat, writtenOver, flattened}
 
 module _ {R : Type 0} (k n : ℕ) (tests : List Test) (refused : ℕ → R) (done : After R) (t : List Float) (m : List ℕ) where

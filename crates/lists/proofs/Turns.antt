@@ -44,6 +44,21 @@ module _ {S : Type 0} (f : ℕ → S → S) where
   pub iter-done : (n i : ℕ) (s whole : S) → n ≤ i → iter f (n - i) i s ≡ whole → s ≡ whole
   iter-done n i s whole l h = rw (iter-end n i s l) at h
 
+-- the same as a record: a loop at its turn i of n
+module _ {S : Type 0} (f : ℕ → S → S) (n : ℕ) (start : S) where
+  pub record Turning (i : ℕ) (s : S) : Type 0 where
+    pub upto : i ≤ n
+    pub rest : iter f (n - i) i s ≡ iter f n 0 start
+
+  pub turning-start : Turning 0 start
+  turning-start = record { upto = omega arith; rest = iter-start f n start }
+
+  pub turning-again : (i : ℕ) (s s' : S) → Turning i s → i < n → s' ≡ f i s → Turning (i + 1) s'
+  turning-again i s s' h l e = record { upto = omega arith; rest = iter-again f n i s s' _ l e (h .rest) }
+
+  pub turning-done : (i : ℕ) (s : S) → Turning i s → n ≤ i → s ≡ iter f n 0 start
+  turning-done i s h l = iter-done f n i s _ l (h .rest)
+
 left-suc : (n i : ℕ) → i < n → n - i ≡ suc (n - suc i)
 left-suc n i l = omega arith
 

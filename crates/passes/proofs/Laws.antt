@@ -1,6 +1,6 @@
--- Laws on the passes over the wheels of a table. In order: a loop at its turn i of n, in general; one that moves the chassis by each wheel (h); one wheel changed (g),
+-- Laws on the passes over the wheels of a table. In order: a loop that moves the chassis by each wheel (h); one wheel changed (g),
 -- and a loop that changes each; what a pass over the first n wheels leaves of the length, the chassis and each wheel; each pass at a wheel. Assumes nothing.
-use Prim.Native.Nat.{ℕ, zero, suc, _+_, _-_, _≤_, _<_}
+use Prim.Native.Nat.{ℕ, zero, suc, _+_, _≤_, _<_}
 use mathlib.Core.List.{List}
 use mathlib.Core.Path.{_≡_, refl, ap, _∙_}
 use native.Mathlib.Decide.{decLt}
@@ -8,7 +8,7 @@ use native.Mathlib.Omega.{arith}
 use lib.ListN.{length}
 use lib.Ieee.{Float, Format}
 use Rattle.lists.specs.Counted.{iter}
-use Rattle.lists.proofs.Turns.{iter-start, iter-again, iter-done, iter-keeps}
+use Rattle.lists.proofs.Turns.{iter-keeps, Turning, turning-start, turning-again, turning-done}
 use Rattle.vector.specs.declared.Pose.{Pose}
 use Rattle.body.specs.declared.Body.{Body}
 use Rattle.body.specs.declared.Chassis.{Chassis}
@@ -21,21 +21,6 @@ use Rattle.table.specs.Rows.{wheelAt, putWheel, chassisAt}
 use Rattle.table.proofs.Laws.{length-put, wheel-put, wheel-other, chassis-stays}
 use Rattle.passes.specs.Frame.{Frame, answerAt, groundedAt}
 use Rattle.passes.specs.Passes.{changed, eachWheel, moved, eachMoves, transformAt, transforms, castAt, casts, suspendAt, suspensions, demandAt, demands, rescaleAt, rescales, spinAt, spins}
-
--- ---- a loop at its turn i of n: what is left to do gives what the whole gives
-module _ {S : Type 0} (f : ℕ → S → S) (n : ℕ) (start : S) where
-  pub record Turning (i : ℕ) (s : S) : Type 0 where
-    pub upto : i ≤ n
-    pub rest : iter f (n - i) i s ≡ iter f n 0 start
-
-  pub turning-start : Turning 0 start
-  turning-start = record { upto = omega arith; rest = iter-start f n start }
-
-  pub turning-again : (i : ℕ) (s s' : S) → Turning i s → i < n → s' ≡ f i s → Turning (i + 1) s'
-  turning-again i s s' h l e = record { upto = omega arith; rest = iter-again f n i s s' _ l e (h .rest) }
-
-  pub turning-done : (i : ℕ) (s : S) → Turning i s → n ≤ i → s ≡ iter f n 0 start
-  turning-done i s h l = iter-done f n i s _ l (h .rest)
 
 -- ---- a loop that moves the chassis by each wheel that it reads
 module _ (h : Wheel → Chassis → Chassis) (n : ℕ) (t : List Float) (start : Chassis) where

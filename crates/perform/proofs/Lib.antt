@@ -1,5 +1,4 @@
 -- The laws that the functions' proofs cite.
 pub mod Putting
 pub mod Told
-pub mod Accepted
 pub mod Fronts

@@ -1,3 +1,3 @@
 -- The laws that callers of the tests cite.
 pub mod Says
-pub mod Settles
+pub mod Settled

@@ -1,2 +1,2 @@
 -- The laws that the calls' proofs cite.
-pub mod Allowed
+pub mod Accepted

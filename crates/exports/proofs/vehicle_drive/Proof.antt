@@ -1,7 +1,7 @@
 -- `exports::vehicle_drive` meets its contract: the results have not their length, the lists are refused, or the call decides. Assumes nothing.
 use borrow.Author.Needs.{needs}
 use mathlib.Core.Path.{refl, sym, _∙_}
-use Rattle.refusals.proofs.Settles.{settled-refused, settled-done}
+use Rattle.refusals.proofs.Settled.{settled-refused, settled-done}
 use Rattle.exports.specs.Calls.{flatDrive}
 use Rattle.exports.proofs.Ending.{refused-of-length, settled-of-length, flattened-of-call}
 use Rattle.exports.proofs.Fitting.{lists-fit}

@@ -3,7 +3,7 @@ use borrow.Author.Needs.{needs}
 use Prim.Native.Nat.{_-_}
 use native.Mathlib.Omega.{arith}
 use lib.Ieee.{ofBits}
-use Rattle.passes.proofs.Laws.{Turning, turning-start, turning-again, turning-done}
+use Rattle.lists.proofs.Turns.{Turning, turning-start, turning-again, turning-done}
 use Rattle.slides.specs.Slides.{gatheredAt, gathered}
 use Rattle.slides.proofs.gather.Statement.{statement}
 use Rattle.slides.proofs.gather.Tie as tie

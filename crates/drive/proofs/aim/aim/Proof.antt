@@ -10,7 +10,8 @@ use Rattle.body.specs.declared.Chassis.{Chassis}
 use Rattle.refusals.specs.Shape.{countOf}
 use Rattle.refusals.proofs.Says.{Shape}
 use Rattle.drive.specs.Aim.{aimedTable, chassisTests, aimedBy}
-use Rattle.drive.proofs.Aims.{shape-of-passed, aim-refused, aim-not-stored, aim-done}
+use Rattle.drive.proofs.Accepted.{chassis-tests-say}
+use Rattle.drive.proofs.Aims.{aim-refused, aim-not-stored, aim-done}
 use Rattle.drive.proofs.aim.aim.Statement.{statement}
 use Rattle.drive.proofs.aim.aim.Tie as tie
 
@@ -28,7 +29,7 @@ passed : (c : tie.Else1) → firstFailed (chassisTests binary32 (table c) (whole
 passed c = sym (c .before .refuse-chassis .ensures) ∙ c .if1 .left
 
 shape : (c : tie.Else1) → Shape (table c) (whole c)
-shape c = shape-of-passed binary32 _ _ _ (passed c)
+shape c = chassis-tests-say binary32 _ _ _ (passed c) .shape
 
 -- ---- once the copy is worked on
 abbrev started : tie.After-place → tie.Else1

@@ -3,7 +3,7 @@ use borrow.Author.Needs.{needs}
 use Prim.Native.Nat.{_-_}
 use native.Mathlib.Omega.{arith}
 use lib.Ieee.{binary32}
-use Rattle.passes.proofs.Laws.{Turning, turning-start, turning-again, turning-done}
+use Rattle.lists.proofs.Turns.{Turning, turning-start, turning-again, turning-done}
 use Rattle.drive.specs.Aim.{sightAt, sightsOf}
 use Rattle.drive.proofs.aim.sights.Statement.{statement}
 use Rattle.drive.proofs.aim.sights.Tie as tie

@@ -2,32 +2,32 @@
 use native.Mathlib.Omega.{arith}
 use mathlib.Core.Path.{sym, _∙_}
 use borrow.Author.Needs.{needs}
-use Rattle.drive.proofs.Refused.{Fits, early-says}
+use Rattle.drive.proofs.Accepted.{FrameTested, early-tests-say}
 use Rattle.drive.proofs.Tries.{drive-accepted, drive-refused-late, drive-refused}
 use Rattle.drive.proofs.drive.drive.Statement.{statement}
 use Rattle.drive.proofs.drive.drive.Tie as tie
 
--- what the refusals that were not given say
-fits : (c : tie.Else1) → let a = c .before .before .before .before .before .before .before .before .args in Fits (a .table .now) (a .whole .now) (a .bodies .now) (a .dynamic .now) (a .answers) (a .n)
-fits c = early-says _ _ _ _ _ (sym (c .before .refuse-drive .ensures) ∙ c .if1 .left)
+-- what was tested of what the drive is handed, once it is not refused
+frame : (c : tie.Else1) → let a = c .before .before .before .before .before .before .before .before .args in FrameTested (a .table .now) (a .whole .now) (a .bodies .now) (a .dynamic .now) (a .answers) (a .n)
+frame c = early-tests-say _ _ _ _ _ (sym (c .before .refuse-drive .ensures) ∙ c .if1 .left) .frame
 
 returns : tie.Need-returns
 returns c = drive-refused _ _ _ _ _ _ _ (c .before .before .refuse-drive .ensures) (c .before .if1 .taken) (c .not-driven .ensures)
 
 slice-read-up : tie.Need-slice-read-up
 slice-read-up c =
-    let s = fits (c .before) .shape in
+    let s = frame (c .before) .shape in
     omega arith
 
 try-drive-requires : tie.Need-try-drive-requires
 try-drive-requires c κs =
-    let h = fits (c .before .before) in
+    let h = frame (c .before .before) in
     let s = h .shape in
     (s .sized, omega arith, h .listed, h .room, h .sized)
 
 slice-write-whole : tie.Need-slice-write-whole
 slice-write-whole c =
-    let s = fits (c .before .before .before .before .before .before .before) .shape in
+    let s = frame (c .before .before .before .before .before .before .before) .shape in
     omega arith
 
 returns-2 : tie.Need-returns-2

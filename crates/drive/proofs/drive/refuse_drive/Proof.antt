@@ -3,7 +3,7 @@ use native.Mathlib.Omega.{arith}
 use mathlib.Core.Path.{sym, _∙_}
 use Rattle.lists.proofs.Refusals.{append-refused-by, append-passed}
 use Rattle.drive.specs.Drive.{earlyTests}
-use Rattle.drive.proofs.Refused.{frame-numbered, handed-numbered, frame-says}
+use Rattle.drive.proofs.Accepted.{frame-numbered, handed-numbered, frame-tests-say}
 use Rattle.drive.proofs.drive.refuse_drive.Statement.{statement}
 use Rattle.drive.proofs.drive.refuse_drive.Tie as tie
 
@@ -13,7 +13,7 @@ returns c = append-refused-by _ _ _ (append-refused-by _ _ _ (c .before .refuse-
 
 refuse-numbers-requires : tie.Need-refuse-numbers-requires
 refuse-numbers-requires c κs =
-    let h = frame-says _ _ _ _ _ _ (sym (c .before .refuse-frame .ensures) ∙ c .if1 .left) in
+    let h = frame-tests-say _ _ _ _ _ _ (sym (c .before .refuse-frame .ensures) ∙ c .if1 .left) in
     let s = h .shape in
     (s .sized, omega arith)
 
@@ -25,7 +25,7 @@ returns-2 c =
 
 refuse-ranges-requires : tie.Need-refuse-ranges-requires
 refuse-ranges-requires c κs =
-    let h = frame-says _ _ _ _ _ _ (sym (c .before .before .before .refuse-frame .ensures) ∙ c .before .before .if1 .left) in
+    let h = frame-tests-say _ _ _ _ _ _ (sym (c .before .before .before .refuse-frame .ensures) ∙ c .before .before .if1 .left) in
     let s = h .shape in
     (s .sized, omega arith, h .room, h .sized)
 

@@ -6,7 +6,8 @@ use lib.Ieee.{binary32}
 use Rattle.wheel.specs.Step.{pushedOf}
 use Rattle.passes.specs.Passes.{pushes}
 use Rattle.passes.specs.Directed.{Directed}
-use Rattle.passes.proofs.Laws.{Moving, turning-start, moving-again, moving-done}
+use Rattle.lists.proofs.Turns.{turning-start}
+use Rattle.passes.proofs.Laws.{Moving, moving-again, moving-done}
 use Rattle.passes.proofs.chassis.push_pass.Statement.{statement}
 use Rattle.passes.proofs.chassis.push_pass.Tie as tie
 

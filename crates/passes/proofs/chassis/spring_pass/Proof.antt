@@ -5,7 +5,8 @@ use native.Mathlib.Omega.{arith}
 use lib.Ieee.{binary32}
 use Rattle.wheel.specs.Step.{springOf}
 use Rattle.passes.specs.Passes.{springs}
-use Rattle.passes.proofs.Laws.{Moving, turning-start, moving-again, moving-done}
+use Rattle.lists.proofs.Turns.{turning-start}
+use Rattle.passes.proofs.Laws.{Moving, moving-again, moving-done}
 use Rattle.passes.proofs.chassis.spring_pass.Statement.{statement}
 use Rattle.passes.proofs.chassis.spring_pass.Tie as tie
 

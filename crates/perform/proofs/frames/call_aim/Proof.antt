@@ -8,10 +8,10 @@ use Rattle.table.specs.Layout as at
 use Rattle.refusals.specs.Shape.{countOf}
 use Rattle.refusals.specs.After.{after}
 use Rattle.drive.specs.Aim.{aimOf}
+use Rattle.drive.proofs.Accepted.{accepted-aim-says}
 use Rattle.scenario.specs.Decode.{chassisFrom}
 use Rattle.perform.specs.Call.{aimResults}
 use Rattle.perform.proofs.Told.{told-refused, told-accepted}
-use Rattle.perform.proofs.Accepted.{room-of-aimed}
 use Rattle.perform.proofs.frames.call_aim.Statement.{statement}
 use Rattle.perform.proofs.frames.call_aim.Tie as tie
 
@@ -29,7 +29,7 @@ abbrev from-accepted : tie.Else1 → tie.After-aim
 from-accepted c = c .before .before .before .before .before
 
 room : (c : tie.Else1) → countOf (start (from-accepted c) .args .whole .now) ≤ at.WHEELS
-room c = room-of-aimed binary32 _ _ _ (aimed (from-accepted c)) (c .if1 .left)
+room c = accepted-aim-says binary32 _ _ _ (aimed (from-accepted c)) (c .if1 .left) .shape .room
 
 returns : tie.Need-returns
 returns c =

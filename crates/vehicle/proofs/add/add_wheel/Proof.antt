@@ -5,38 +5,37 @@ use native.Mathlib.Omega.{arith}
 use borrow.Author.Needs.{needs}
 use lib.ListN.{length}
 use Rattle.table.specs.Layout as at
-use Rattle.refusals.specs.Shape.{countOf}
-use Rattle.refusals.proofs.Settles.{settled-refused, settled-done}
+use Rattle.refusals.proofs.Settled.{settled-refused, settled-done}
 use Rattle.vehicle.specs.Add.{addWheel}
-use Rattle.vehicle.proofs.Allowed.{Row, add-allowed}
+use Rattle.vehicle.proofs.Accepted.{AddTested, add-says}
 use Rattle.vehicle.proofs.add.add_wheel.Statement.{statement}
 use Rattle.vehicle.proofs.add.add_wheel.Tie as tie
 
--- the sizes and a row for one wheel more, once it is not refused
-row : (c : tie.Else1) → Row (c .before .before .before .before .before .before .before .args .table .now) (c .before .before .before .before .before .before .before .args .whole .now) (countOf (c .before .before .before .before .before .before .before .args .whole .now))
-row c = add-allowed _ _ _ (sym (c .before .refuse-add .ensures) ∙ c .if1 .left)
+-- what was tested, once it is not refused
+tested : (c : tie.Else1) → let a = c .before .before .before .before .before .before .before .args in AddTested (a .table .now) (a .whole .now)
+tested c = add-says _ _ _ (sym (c .before .refuse-add .ensures) ∙ c .if1 .left)
 
 place : (c : tie.Else1) (k : ℕ) → k < at.WHOLE → k < length (c .before .before .before .before .before .before .before .args .whole .now)
-place c k l = let s = row c in omega arith
+place c k l = let s = tested c in omega arith
 
 returns : tie.Need-returns
 unfolding addWheel
 returns c = rw (← c .before .before .before .before .settings-from .ensures) (settled-refused _ _ _ _ _ _ _ (c .before .refuse-add .ensures) (c .if1 .taken) refl)
 
 slice-read-count : tie.Need-slice-read-count
-slice-read-count c = let r = row (c .before) in omega arith
+slice-read-count c = let r = tested (c .before) in omega arith
 
 cast-put-wheel : tie.Need-cast-put-wheel
-cast-put-wheel c = let r = row (c .before .before) in omega arith
+cast-put-wheel c = let r = tested (c .before .before) in omega arith
 
 put-wheel-requires : tie.Need-put-wheel-requires
-put-wheel-requires c κs = let r = row (c .before .before .before) in omega arith
+put-wheel-requires c κs = let r = tested (c .before .before .before) in omega arith
 
 add-whole : tie.Need-add-whole
-add-whole c = let r = row (c .before .before .before .before .before .before) in omega arith
+add-whole c = let r = tested (c .before .before .before .before .before .before) in omega arith
 
 slice-write-whole : tie.Need-slice-write-whole
-slice-write-whole c = let r = row (c .before .before .before .before .before .before) in omega arith
+slice-write-whole c = let r = tested (c .before .before .before .before .before .before) in omega arith
 
 slice-write-whole-2 : tie.Need-slice-write-whole-2
 slice-write-whole-2 c = let l = place (c .before .before .before .before .before .before) at.MARK (omega arith) in search needs

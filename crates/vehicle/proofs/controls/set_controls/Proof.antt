@@ -4,31 +4,31 @@ use native.Mathlib.Omega.{arith}
 use borrow.Author.Needs.{needs}
 use borrow.Author.Tests.{eq-eqb, ne-eqb}
 use Rattle.lists.specs.Pick.{pick}
-use Rattle.refusals.proofs.Settles.{settled-refused, settled-done}
+use Rattle.refusals.proofs.Settled.{settled-refused, settled-done}
 use Rattle.vehicle.specs.Controls.{setControls, unaimed}
-use Rattle.vehicle.proofs.Allowed.{Row, controls-allowed}
+use Rattle.vehicle.proofs.Accepted.{ControlsTested, set-controls-says}
 use Rattle.vehicle.proofs.controls.set_controls.Statement.{statement}
 use Rattle.vehicle.proofs.controls.set_controls.Tie as tie
 
--- the sizes and the row, once it is not refused
-row : (c : tie.Else1) → Row (c .before .before .before .before .before .before .args .table .now) (c .before .before .before .before .before .before .args .whole .now) (c .before .before .before .before .before .before .args .wheel)
-row c = controls-allowed _ _ _ _ _ (sym (c .before .refuse-controls .ensures) ∙ c .if1 .left)
+-- what was tested, once it is not refused
+tested : (c : tie.Else1) → let a = c .before .before .before .before .before .before .args in ControlsTested (a .table .now) (a .whole .now) (a .wheel)
+tested c = set-controls-says _ _ _ _ _ (sym (c .before .refuse-controls .ensures) ∙ c .if1 .left)
 
 returns : tie.Need-returns
 unfolding setControls
 returns c = settled-refused _ _ _ _ _ _ _ (c .before .refuse-controls .ensures) (c .if1 .taken) refl
 
 get-wheel-requires : tie.Need-get-wheel-requires
-get-wheel-requires c κs = let r = row (c .before) in omega arith
+get-wheel-requires c κs = let r = tested (c .before) in omega arith
 
 put-wheel-requires : tie.Need-put-wheel-requires
-put-wheel-requires c κs = let r = row (c .before .before .before .before) in omega arith
+put-wheel-requires c κs = let r = tested (c .before .before .before .before) in omega arith
 
 slice-read-if2 : tie.Need-slice-read-if2
-slice-read-if2 c = let r = row (c .before .before .before .before .before .before .before .before) in omega arith
+slice-read-if2 c = let r = tested (c .before .before .before .before .before .before .before .before) in omega arith
 
 slice-write-whole : tie.Need-slice-write-whole
-slice-write-whole c = let r = row (c .before .before .before .before .before .before .before .before .before) in omega arith
+slice-write-whole c = let r = tested (c .before .before .before .before .before .before .before .before .before) in omega arith
 
 returns-2 : tie.Need-returns-2
 unfolding setControls unaimed pick

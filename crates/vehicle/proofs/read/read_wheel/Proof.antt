@@ -2,10 +2,10 @@
 use mathlib.Core.Path.{sym, ap, _∙_}
 use native.Mathlib.Omega.{arith}
 use Rattle.refusals.specs.After.{after}
-use Rattle.refusals.proofs.Settles.{settled-refused, settled-done}
+use Rattle.refusals.proofs.Settled.{settled-refused, settled-done}
 use Rattle.vehicle.specs.declared.Reading.{Reading}
 use Rattle.vehicle.specs.Read.{readWheel, readingOf}
-use Rattle.vehicle.proofs.Allowed.{read-allowed}
+use Rattle.vehicle.proofs.Accepted.{read-says}
 use Rattle.vehicle.proofs.read.read_wheel.Statement.{statement}
 use Rattle.vehicle.proofs.read.read_wheel.Tie as tie
 
@@ -15,7 +15,7 @@ returns c = settled-refused _ _ _ _ _ _ _ (c .before .before .refuse-read .ensur
 
 get-wheel-requires : tie.Need-get-wheel-requires
 get-wheel-requires c κs =
-    let r = read-allowed _ _ _ (sym (c .before .refuse-read .ensures) ∙ c .if1 .left) in
+    let r = read-says _ _ _ (sym (c .before .refuse-read .ensures) ∙ c .if1 .left) in
     omega arith
 
 returns-2 : tie.Need-returns-2

@@ -1,36 +1,46 @@
 -- `vehicle::set_up::set_up` meets its contract: it is refused with nothing changed, or leaves a vehicle with no wheels. Assumes nothing.
 use Prim.Native.Nat.{ℕ, _<_}
-use mathlib.Core.Path.{refl, sym, ap, _∙_}
+use mathlib.Core.List.{List, [], _∷_}
+use mathlib.Core.Path.{_≡_, refl, sym, ap, _∙_}
 use native.Mathlib.Omega.{arith}
 use borrow.Author.Needs.{needs}
-use lib.ListN.{length, replicate}
+use lib.ListN.{length, set, replicate}
 use lib.Ieee.{ofBits}
 use Rattle.real.specs.Number.{zero}
 use Rattle.table.specs.Layout as at
 use Rattle.refusals.specs.After.{after}
-use Rattle.refusals.proofs.Says.{Sizes}
-use Rattle.refusals.proofs.Settles.{settled-refused, settled-done}
+use Rattle.refusals.proofs.Settled.{settled-refused, settled-done}
 use Rattle.vehicle.specs.SetUp.{setUp}
-use Rattle.vehicle.proofs.Allowed.{set-up-allowed, whole-set-up}
+use Rattle.vehicle.proofs.Accepted.{SetUpTested, set-up-says}
 use Rattle.vehicle.proofs.set_up.set_up.Statement.{statement}
 use Rattle.vehicle.proofs.set_up.set_up.Tie as tie
 
--- the sizes, once it is not refused
-sizes : (c : tie.Else1) → Sizes (c .before .before .before .before .before .before .args .table .now) (c .before .before .before .before .before .before .args .whole .now)
-sizes c = set-up-allowed _ _ _ _ (sym (c .before .refuse-set-up .ensures) ∙ c .if1 .left)
+-- the four whole numbers, written one by one
+whole-set-up : (m : List ℕ) (up forward : ℕ) → length m ≡ at.WHOLE
+    → set (set (set (set m at.COUNT 0) at.MARK at.NEW) at.UP up) at.FORWARD forward ≡ 0 ∷ at.NEW ∷ up ∷ forward ∷ []
+whole-set-up [] up forward h = absurd (omega arith)
+whole-set-up (a ∷ []) up forward h = absurd (omega arith)
+whole-set-up (a ∷ b ∷ []) up forward h = absurd (omega arith)
+whole-set-up (a ∷ b ∷ c ∷ []) up forward h = absurd (omega arith)
+whole-set-up (a ∷ b ∷ c ∷ d ∷ []) up forward h = refl
+whole-set-up (a ∷ b ∷ c ∷ d ∷ e ∷ m) up forward h = absurd (omega arith)
+
+-- what was tested, once it is not refused
+tested : (c : tie.Else1) → let a = c .before .before .before .before .before .before .args in SetUpTested (a .table .now) (a .whole .now) (a .up) (a .forward)
+tested c = set-up-says _ _ _ _ (sym (c .before .refuse-set-up .ensures) ∙ c .if1 .left)
 
 place : (c : tie.Else1) (k : ℕ) → k < at.WHOLE → k < length (c .before .before .before .before .before .before .args .whole .now)
-place c k l = let s = sizes c in omega arith
+place c k l = let s = tested c .sizes in omega arith
 
 returns : tie.Need-returns
 unfolding setUp
 returns c = settled-refused _ _ _ _ _ _ _ (c .before .refuse-set-up .ensures) (c .if1 .taken) refl
 
 copy-requires : tie.Need-copy-requires
-copy-requires c κs = let s = sizes (c .before .before) in omega arith
+copy-requires c κs = let s = tested (c .before .before) .sizes in omega arith
 
 slice-write-whole : tie.Need-slice-write-whole
-slice-write-whole c = let s = sizes (c .before .before .before .before .before) in omega arith
+slice-write-whole c = let s = tested (c .before .before .before .before .before) .sizes in omega arith
 
 slice-write-whole-2 : tie.Need-slice-write-whole-2
 slice-write-whole-2 c = let l = place (c .before .before .before .before .before) at.MARK (omega arith) in search needs
@@ -46,7 +56,7 @@ unfolding setUp ofBits
 returns-2 c =
     let a = c .before .before .before .before .before .before .before .before .before .before .before .args in
     settled-done _ _ _ _ _ _ _ (c .before .before .before .before .before .before .refuse-set-up .ensures) (c .before .before .before .before .before .if1 .left)
-    (rw (c .before .before .copy .ensures) (ap (after 0 (replicate at.SIZE zero)) (whole-set-up (a .whole .now) (a .up) (a .forward) (sizes (c .before .before .before .before .before) .four))))
+    (rw (c .before .before .copy .ensures) (ap (after 0 (replicate at.SIZE zero)) (whole-set-up (a .whole .now) (a .up) (a .forward) (tested (c .before .before .before .before .before) .sizes .four))))
 
 pub set-up-spec : {M : Type 1} → statement M
 set-up-spec =
