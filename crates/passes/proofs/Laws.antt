@@ -13,21 +13,25 @@ use Rattle.vector.specs.declared.Pose.{Pose}
 use Rattle.body.specs.declared.Body.{Body}
 use Rattle.body.specs.declared.Chassis.{Chassis}
 use Rattle.wheel.specs.declared.Wheel.{Wheel}
+use Rattle.tyre.specs.Grip.{rescaledOf}
+use Rattle.wheel.specs.declared.Settings.{Settings}
+use Rattle.wheel.specs.declared.Directions.{Directions}
 use Rattle.wheel.specs.declared.RayAnswer.{RayAnswer}
-use Rattle.wheel.specs.Ray.{transformOf, castOf}
-use Rattle.wheel.specs.Step.{suspendedOf, rescaledOf, withFriction, frictionIn, spunOf}
+use Rattle.wheel.specs.Parts.{withFriction, frictionIn}
+use Rattle.wheel.specs.Ray.{updateWheelTransform, rayCast}
+use Rattle.wheel.specs.Step.{suspendedOf, updateRotation}
 use Rattle.table.specs.Layout as at
 use Rattle.table.specs.Rows.{wheelAt, putWheel, chassisAt}
 use Rattle.table.proofs.Laws.{length-put, wheel-put, wheel-other, chassis-stays}
-use Rattle.passes.specs.Frame.{Frame, answerAt, groundedAt}
+use Rattle.passes.specs.Frame.{Frame, groundedAt}
 use Rattle.passes.specs.Passes.{changed, eachWheel, moved, eachMoves, transformAt, transforms, castAt, casts, suspendAt, suspensions, demandAt, demands, rescaleAt, rescales, spinAt, spins}
 
 -- ---- a loop that moves the chassis by each wheel that it reads
-module _ (h : Wheel → Chassis → Chassis) (n : ℕ) (t : List Float) (start : Chassis) where
+module _ (h : ℕ → Wheel → Chassis → Chassis) (n : ℕ) (t : List Float) (start : Chassis) where
   abbrev pub Moving : ℕ → Chassis → Type 0
   Moving i c = Turning (moved h t) n start i c
 
-  pub moving-again : (i : ℕ) (c c' : Chassis) (w : Wheel) → Moving i c → i < n → w ≡ wheelAt t i → c' ≡ h w c → Moving (i + 1) c'
+  pub moving-again : (i : ℕ) (c c' : Chassis) (w : Wheel) → Moving i c → i < n → w ≡ wheelAt t i → c' ≡ h i w c → Moving (i + 1) c'
   unfolding moved
   moving-again i c c' w m l p q = turning-again (moved h t) n start i c c' m l (rw (q, p))
 
@@ -121,27 +125,27 @@ module _ (g : ℕ → Wheel → Wheel) where
     wheel-past i h = wheel-outside n 0 i t s (omega arith) (λ m a b e. omega arith)
 
 -- ---- each pass at a wheel i of the first n
-module _ (f : Format) (n : ℕ) (t : List Float) (s : length t ≡ at.SIZE) (l : n ≤ at.WHEELS) (i : ℕ) (h : i < n) where
-  pub wheel-transforms : (pose : Pose) → wheelAt (transforms f pose n t) i ≡ transformOf f pose (wheelAt t i)
+module _ (f : Format) (tune : Settings → Settings) (n : ℕ) (t : List Float) (s : length t ≡ at.SIZE) (l : n ≤ at.WHEELS) (i : ℕ) (h : i < n) where
+  pub wheel-transforms : (pose : Pose) → wheelAt (transforms f pose n t) i ≡ updateWheelTransform f pose (wheelAt t i)
   unfolding transforms transformAt
   wheel-transforms pose = wheel-each (transformAt f pose) n t s l i h
 
-  pub wheel-casts : (chassis : Body) (answers : List RayAnswer) → wheelAt (casts f chassis answers n t) i ≡ castOf f chassis (wheelAt t i) (answerAt answers i)
+  pub wheel-casts : (chassis : Body) (answer : ℕ → RayAnswer) → wheelAt (casts f tune chassis answer n t) i ≡ rayCast f (tune (wheelAt t i .settings)) chassis (answer i) (wheelAt t i)
   unfolding casts castAt
-  wheel-casts chassis answers = wheel-each (castAt f chassis answers) n t s l i h
+  wheel-casts chassis answer = wheel-each (castAt f tune chassis answer) n t s l i h
 
-  pub wheel-suspensions : (invmass : Float) (answers : List RayAnswer) → wheelAt (suspensions f invmass answers n t) i ≡ suspendedOf f invmass (groundedAt answers i) (wheelAt t i)
+  pub wheel-suspensions : (invmass : Float) (answer : ℕ → RayAnswer) → wheelAt (suspensions f tune invmass answer n t) i ≡ suspendedOf f (tune (wheelAt t i .settings)) invmass (groundedAt answer i) (wheelAt t i)
   unfolding suspensions suspendAt
-  wheel-suspensions invmass answers = wheel-each (suspendAt f invmass answers) n t s l i h
+  wheel-suspensions invmass answer = wheel-each (suspendAt f tune invmass answer) n t s l i h
 
-  pub wheel-demands : (r : Frame) (chassis : Body) (grounded : ℕ) → wheelAt (demands f r chassis grounded n t) i ≡ demandAt f r chassis grounded i (wheelAt t i)
+  pub wheel-demands : (r : Frame) (chassis : Body) (grounded : ℕ) (d : ℕ → Directions) → wheelAt (demands f tune r chassis grounded d n t) i ≡ demandAt f tune r chassis grounded d i (wheelAt t i)
   unfolding demands
-  wheel-demands r chassis grounded = wheel-each (demandAt f r chassis grounded) n t s l i h
+  wheel-demands r chassis grounded d = wheel-each (demandAt f tune r chassis grounded d) n t s l i h
 
   pub wheel-rescales : wheelAt (rescales f n t) i ≡ withFriction (wheelAt t i) (rescaledOf f (frictionIn (wheelAt t i)))
   unfolding rescales rescaleAt
   wheel-rescales = wheel-each (rescaleAt f) n t s l i h
 
-  pub wheel-spins : (dt : Float) (chassis : Body) (answers : List RayAnswer) → wheelAt (spins f dt chassis answers n t) i ≡ spunOf f dt (groundedAt answers i) chassis (wheelAt t i)
+  pub wheel-spins : (dt : Float) (chassis : Body) (answer : ℕ → RayAnswer) → wheelAt (spins f tune dt chassis answer n t) i ≡ updateRotation f (tune (wheelAt t i .settings)) dt (groundedAt answer i) chassis (wheelAt t i)
   unfolding spins spinAt
-  wheel-spins dt chassis answers = wheel-each (spinAt f dt chassis answers) n t s l i h
+  wheel-spins dt chassis answer = wheel-each (spinAt f tune dt chassis answer) n t s l i h

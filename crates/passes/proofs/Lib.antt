@@ -1,4 +1,3 @@
 -- The laws that proofs over the passes cite.
 pub mod Laws
 pub mod OneWheel
-pub mod Directed

@@ -1,4 +1,3 @@
 pub mod Frame
 pub mod Passes
-pub mod OneWheel
-pub mod Directed
+pub mod Step

@@ -1,69 +1,103 @@
 -- Document 01, "A step, in the source's order", over the first n wheels of a table: one pass after another, each wheel by wheel. Definitions only.
--- `t` is the table, `c` the chassis as it stands; `w` is the wheel that a pass has come to.
+-- `t` is the table, `c` the chassis as it stands; `w` is the wheel that a pass has come to. `tune` gives the settings that count in the step from those that the wheel stores.
 use Prim.Native.Nat.{ℕ}
 use mathlib.Core.Bool.{Bool, true, false}
 use mathlib.Core.List.{List}
-use lib.Ieee.{Float, Format}
+use lib.ListN.{getD, set, replicate}
+use lib.Ieee.{Float, Format, nan}
 use Rattle.lists.specs.Pick.{pick}
 use Rattle.lists.specs.Counted.{iter, every}
 use Rattle.real.specs.Scalar.{within}
 use Rattle.vector.specs.declared.Vector.{Vector}
 use Rattle.vector.specs.declared.Pose.{Pose}
-use Rattle.vector.specs.Arithmetic.{rotateV, axisV}
+use Rattle.vector.specs.Arithmetic.{zeroV, rotateV, ith}
 use Rattle.body.specs.declared.Body.{Body}
 use Rattle.body.specs.declared.Chassis.{Chassis}
+use Rattle.tyre.specs.Grip.{rescaledOf}
+use Rattle.wheel.specs.declared.Settings.{Settings}
 use Rattle.wheel.specs.declared.Wheel.{Wheel}
+use Rattle.wheel.specs.declared.Directions.{Directions}
 use Rattle.wheel.specs.declared.RayAnswer.{RayAnswer}
-use Rattle.wheel.specs.Ray.{transformOf, castOf}
-use Rattle.wheel.specs.Step.{suspendedOf, springOf, wheelLimit, frictionOf, rescaledOf, withFriction, frictionIn, pushedOf, spunOf}
+use Rattle.wheel.specs.Parts.{withFriction, frictionIn}
+use Rattle.wheel.specs.Ray.{updateWheelTransform, rayCast, isGrounded}
+use Rattle.wheel.specs.Contact.{directionsOf}
+use Rattle.wheel.specs.Step.{suspendedOf, applySuspension, wheelLimit, frictionOf, applyFriction, updateRotation}
+use Rattle.table.specs.Layout as at
 use Rattle.table.specs.Bounds.{STORED}
 use Rattle.table.specs.Rows.{wheelAt, putWheel, chassisAt, putChassis}
-use Rattle.passes.specs.Frame.{Frame, answerAt, groundedAt, groundedWheels, groundAt}
+use Rattle.passes.specs.Frame.{Frame, groundedAt, groundedWheels, groundUnder}
 
--- ---- a pass that changes each wheel, and one that changes the chassis at each wheel
+-- the settings that count are the stored ones
+abbrev pub stored : Settings → Settings
+stored s = s
+
+-- ---- a pass that changes each wheel; one that moves the chassis at each wheel; and one that gives a value for each wheel, `none` for the others
 unfoldable pub changed : (ℕ → Wheel → Wheel) → ℕ → List Float → List Float
 changed g i t = putWheel t i (g i (wheelAt t i))
 
 unfoldable pub eachWheel : (ℕ → Wheel → Wheel) → ℕ → List Float → List Float
 eachWheel g n t = iter (changed g) n 0 t
 
-unfoldable pub moved : (Wheel → Chassis → Chassis) → List Float → ℕ → Chassis → Chassis
-moved h t i c = h (wheelAt t i) c
+unfoldable pub moved : (ℕ → Wheel → Chassis → Chassis) → List Float → ℕ → Chassis → Chassis
+moved h t i c = h i (wheelAt t i) c
 
-unfoldable pub eachMoves : (Wheel → Chassis → Chassis) → ℕ → List Float → Chassis → Chassis
+unfoldable pub eachMoves : (ℕ → Wheel → Chassis → Chassis) → ℕ → List Float → Chassis → Chassis
 eachMoves h n t c = iter (moved h t) n 0 c
+
+module _ {A : Type 0} (v : Wheel → A) where
+  unfoldable pub given : List Float → ℕ → List A → List A
+  given t i l = set l i (v (wheelAt t i))
+
+  unfoldable pub eachGives : A → ℕ → List Float → List A
+  eachGives none n t = iter (given t) n 0 (replicate at.WHEELS none)
 
 -- ---- rule 1
 unfoldable pub transformAt : Format → Pose → ℕ → Wheel → Wheel
-transformAt f pose i w = transformOf f pose w
+transformAt f pose i w = updateWheelTransform f pose w
 
 unfoldable pub transforms : Format → Pose → ℕ → List Float → List Float
 transforms f pose n t = eachWheel (transformAt f pose) n t
 
 -- ---- rules 3 to 5, with the chassis as it was kept
-unfoldable pub castAt : Format → Body → List RayAnswer → ℕ → Wheel → Wheel
-castAt f chassis answers i w = castOf f chassis w (answerAt answers i)
+unfoldable pub castAt : Format → (Settings → Settings) → Body → (ℕ → RayAnswer) → ℕ → Wheel → Wheel
+castAt f tune chassis answer i w = rayCast f (tune (w .settings)) chassis (answer i) w
 
-unfoldable pub casts : Format → Body → List RayAnswer → ℕ → List Float → List Float
-casts f chassis answers n t = eachWheel (castAt f chassis answers) n t
+unfoldable pub casts : Format → (Settings → Settings) → Body → (ℕ → RayAnswer) → ℕ → List Float → List Float
+casts f tune chassis answer n t = eachWheel (castAt f tune chassis answer) n t
 
 -- ---- rule 6: forces, then impulses, wheel by wheel
-unfoldable pub suspendAt : Format → Float → List RayAnswer → ℕ → Wheel → Wheel
-suspendAt f invmass answers i w = suspendedOf f invmass (groundedAt answers i) w
+unfoldable pub suspendAt : Format → (Settings → Settings) → Float → (ℕ → RayAnswer) → ℕ → Wheel → Wheel
+suspendAt f tune invmass answer i w = suspendedOf f (tune (w .settings)) invmass (groundedAt answer i) w
 
-unfoldable pub suspensions : Format → Float → List RayAnswer → ℕ → List Float → List Float
-suspensions f invmass answers n t = eachWheel (suspendAt f invmass answers) n t
+unfoldable pub suspensions : Format → (Settings → Settings) → Float → (ℕ → RayAnswer) → ℕ → List Float → List Float
+suspensions f tune invmass answer n t = eachWheel (suspendAt f tune invmass answer) n t
 
-unfoldable pub springs : Format → Float → ℕ → List Float → Chassis → Chassis
-springs f dt n t c = eachMoves (springOf f dt) n t c
+unfoldable pub springAt : Format → (Settings → Settings) → Float → ℕ → Wheel → Chassis → Chassis
+springAt f tune dt i w c = applySuspension f (tune (w .settings)) dt w c
+
+unfoldable pub springs : Format → (Settings → Settings) → Float → ℕ → List Float → Chassis → Chassis
+springs f tune dt n t c = eachMoves (springAt f tune dt) n t c
+
+-- ---- rule 7: the directions of each wheel, as a list; past its end stands no number
+abbrev pub noDirections : Directions
+noDirections = record { axis = zeroV; forward = zeroV }
+
+unfoldable pub directionsIn : Format → ℕ → List Float → List Directions
+directionsIn f n t = eachGives (directionsOf f) noDirections n t
+
+abbrev pub directionsAt : List Directions → ℕ → Directions
+directionsAt l i = getD l i (record { axis = record { x = nan; y = nan; z = nan }; forward = record { x = nan; y = nan; z = nan } })
 
 -- ---- rule 7, and rule 8 before the rescale: the demands of all wheels, with the chassis after the springs
-unfoldable pub demandAt : Format → Frame → Body → ℕ → ℕ → Wheel → Wheel
-demandAt f r chassis grounded i w =
-    withFriction w (frictionOf f (r .dt) chassis (groundedAt (r .answers) i) (groundAt (r .bodies) (r .dynamic) (r .answers) i) grounded w)
+unfoldable pub demandOf : Format → (Settings → Settings) → Float → Body → List Float → List Bool → RayAnswer → ℕ → Directions → Wheel → Wheel
+demandOf f tune dt chassis bodies dynamic answer grounded d w =
+    withFriction w (frictionOf f (tune (w .settings)) dt chassis (isGrounded answer) (groundUnder bodies dynamic answer) grounded d w)
 
-unfoldable pub demands : Format → Frame → Body → ℕ → ℕ → List Float → List Float
-demands f r chassis grounded n t = eachWheel (demandAt f r chassis grounded) n t
+unfoldable pub demandAt : Format → (Settings → Settings) → Frame → Body → ℕ → (ℕ → Directions) → ℕ → Wheel → Wheel
+demandAt f tune r chassis grounded d i w = demandOf f tune (r .dt) chassis (r .bodies) (r .dynamic) (r .answer i) grounded (d i) w
+
+unfoldable pub demands : Format → (Settings → Settings) → Frame → Body → ℕ → (ℕ → Directions) → ℕ → List Float → List Float
+demands f tune r chassis grounded d n t = eachWheel (demandAt f tune r chassis grounded d) n t
 
 -- ---- rule 8: the rescale
 unfoldable pub rescaleAt : Format → ℕ → Wheel → Wheel
@@ -72,52 +106,26 @@ rescaleAt f i w = withFriction w (rescaledOf f (frictionIn w))
 unfoldable pub rescales : Format → ℕ → List Float → List Float
 rescales f n t = eachWheel (rescaleAt f) n t
 
--- ---- rule 9
-unfoldable pub pushes : Format → Vector → ℕ → List Float → Chassis → Chassis
-pushes f up n t c = eachMoves (pushedOf f up) n t c
+-- ---- rule 9, with the directions of rule 7
+unfoldable pub pushAt : Format → Vector → (ℕ → Directions) → ℕ → Wheel → Chassis → Chassis
+pushAt f up d i w c = applyFriction f up (d i) w c
+
+unfoldable pub pushes : Format → Vector → (ℕ → Directions) → ℕ → List Float → Chassis → Chassis
+pushes f up d n t c = eachMoves (pushAt f up d) n t c
 
 -- ---- rule 10, with the chassis after rule 9
-unfoldable pub spinAt : Format → Float → Body → List RayAnswer → ℕ → Wheel → Wheel
-spinAt f dt chassis answers i w = spunOf f dt (groundedAt answers i) chassis w
+unfoldable pub spinAt : Format → (Settings → Settings) → Float → Body → (ℕ → RayAnswer) → ℕ → Wheel → Wheel
+spinAt f tune dt chassis answer i w = updateRotation f (tune (w .settings)) dt (groundedAt answer i) chassis w
 
-unfoldable pub spins : Format → Float → Body → List RayAnswer → ℕ → List Float → List Float
-spins f dt chassis answers n t = eachWheel (spinAt f dt chassis answers) n t
-
--- ---- the step
-pub record Work : Type 0 where
-  pub table : List Float
-  pub chassis : Chassis
-
-abbrev pub work : List Float → Chassis → Work
-work t c = record { table = t; chassis = c }
-
--- after the springs: the table with its contacts and forces, and the chassis
-unfoldable pub sprung : Format → Frame → ℕ → List Float → Work
-sprung f r n t =
-    let c = chassisAt t in
-    let after = suspensions f (c .body .invmass) (r .answers) n (casts f (c .body) (r .answers) n t) in
-    work after (springs f (r .dt) n after c)
-
--- both demands for all wheels, before any friction impulse is applied
-unfoldable pub demanded : Format → Frame → ℕ → Work → Work
-demanded f r n s = work (demands f r (s .chassis .body) (groundedWheels (r .answers) n) n (s .table)) (s .chassis)
-
--- the rest of the step; `up` is the number of the up axis, which the chassis rotates
-unfoldable pub pushedWork : Format → ℕ → ℕ → Work → Work
-pushedWork f up n s =
-    let after = rescales f n (s .table) in
-    work after (pushes f (rotateV f (s .chassis .pose .rotation) (axisV up)) n after (s .chassis))
-
--- the table with the new rows and the new velocities of the kept chassis
-unfoldable pub storedWork : Format → Float → List RayAnswer → ℕ → Work → Work
-storedWork f dt answers n s = work (putChassis (spins f dt (s .chassis .body) answers n (s .table)) (s .chassis)) (s .chassis)
+unfoldable pub spins : Format → (Settings → Settings) → Float → Body → (ℕ → RayAnswer) → ℕ → List Float → List Float
+spins f tune dt chassis answer n t = eachWheel (spinAt f tune dt chassis answer) n t
 
 -- ---- refusal 7: the demands and the grip limit of each grounded wheel are no NaN and at most 2^40 in magnitude
-unfoldable pub admits : Format → Float → Wheel → Bool
-admits f dt w = pick (within STORED (w .motion .forward)) (pick (within STORED (w .motion .side)) (within STORED (wheelLimit f dt w)) false) false
+unfoldable pub admits : Format → Settings → Float → Wheel → Bool
+admits f s dt w = pick (within STORED (w .motion .forward)) (pick (within STORED (w .motion .side)) (within STORED (wheelLimit f s dt w)) false) false
 
-unfoldable pub admittedAt : Format → Float → List RayAnswer → List Float → ℕ → Bool
-admittedAt f dt answers t i = pick (groundedAt answers i) (admits f dt (wheelAt t i)) true
+unfoldable pub admittedAt : Format → (Settings → Settings) → Float → (ℕ → RayAnswer) → List Float → ℕ → Bool
+admittedAt f tune dt answer t i = pick (groundedAt answer i) (admits f (tune (wheelAt t i .settings)) dt (wheelAt t i)) true
 
-unfoldable pub demandsAdmitted : Format → Float → List RayAnswer → ℕ → List Float → Bool
-demandsAdmitted f dt answers n t = every (admittedAt f dt answers t) n 0
+unfoldable pub demandsAdmitted : Format → (Settings → Settings) → Float → (ℕ → RayAnswer) → ℕ → List Float → Bool
+demandsAdmitted f tune dt answer n t = every (admittedAt f tune dt answer t) n 0

@@ -1,8 +1,10 @@
 // Passes that move the chassis at each wheel, in the source's order, and the test of refusal 7.
 use body::Chassis;
+use table::layout::WHEELS;
 use vector::Vector;
 use wheel::Directions;
 use wheel::RayAnswer;
+use wheel::Settings;
 use wheel::Wheel;
 ghost use mathlib.Core.Path.{_≡_};
 ghost use Prim.Native.Nat.{ℕ, _<_, _≤_};
@@ -12,39 +14,45 @@ ghost use mathlib.Core.Bool.{true};
 ghost use Rattle.lists.specs.Pick.{pick};
 ghost use Rattle.table.specs.Layout as at;
 ghost use Rattle.table.specs.Rows.{wheelAt};
-ghost use Rattle.passes.specs.Directed.{Directed};
-ghost use Rattle.passes.specs.Passes.{springs, pushes, admits, demandsAdmitted};
+ghost use Rattle.wheel.specs.Ray.{answerAt};
+ghost use Rattle.passes.specs.Passes.{stored, springs, noDirections, directionsIn, directionsAt, pushes, admits, demandsAdmitted};
 
 // Rule 6: the chassis after the springs of the first n wheels.
 pub fn spring_pass(table: &[f32], n: usize, chassis: Chassis, dt: f32) -> Chassis
     requires { ⌜ (length (now table) ≡ at.SIZE) × (n ≤ at.WHEELS) ⌝ }
-    ensures { λ r. ⌜ r ≡ springs binary32 dt n (now (table .entry)) chassis ⌝ }
+    ensures { λ r. ⌜ r ≡ springs binary32 stored dt n (now (table .entry)) chassis ⌝ }
 {
     let mut c = chassis;
     let mut i = 0usize;
     while i < n {
         let w = table::rows::get_wheel(table, i);
-        c = wheel::step::apply_suspension(c, w, dt);
+        c = wheel::step::apply_suspension(w.settings, dt, w, c);
         i += 1usize;
     }
     c
 }
 
-// Rule 7: the directions of the first n wheels, worked out once for the passes that use them. Zeros past them.
-pub fn directions(table: &[f32], n: usize) -> [Directions; 16]
-    requires { ⌜ (length (now table) ≡ at.SIZE) × (n ≤ at.WHEELS) ⌝ }
-    ensures { λ r. ⌜ Directed binary32 n r (now (table .entry)) ⌝ }
+fn no_directions() -> Directions
+    ensures { λ r. ⌜ r ≡ noDirections ⌝ }
 {
     let zero = vector::zero();
-    let none = Directions {
+    Directions {
         axis: zero,
         forward: zero,
-    };
-    let mut all = [none; 16];
+    }
+}
+
+// Rule 7: the directions of the first n wheels, worked out once for the passes that use them. Zeros past them.
+pub fn directions_in(table: &[f32], n: usize) -> [Directions; WHEELS]
+    requires { ⌜ (length (now table) ≡ at.SIZE) × (n ≤ at.WHEELS) ⌝ }
+    ensures { λ r. ⌜ r ≡ directionsIn binary32 n (now (table .entry)) ⌝ }
+{
+    let none = no_directions();
+    let mut all = [none; WHEELS];
     let mut i = 0usize;
     while i < n {
         let w = table::rows::get_wheel(table, i);
-        all[i] = wheel::step::directions(w);
+        all[i] = wheel::contact::directions_of(w);
         i += 1usize;
     }
     all
@@ -54,27 +62,27 @@ pub fn directions(table: &[f32], n: usize) -> [Directions; 16]
 pub fn push_pass(
     table: &[f32],
     n: usize,
-    directions: [Directions; 16],
+    directions: [Directions; WHEELS],
     chassis: Chassis,
     up: Vector,
 ) -> Chassis
-    requires { ⌜ (length (now table) ≡ at.SIZE) × (n ≤ at.WHEELS) × Directed binary32 n directions (now table) ⌝ }
-    ensures { λ r. ⌜ r ≡ pushes binary32 up n (now (table .entry)) chassis ⌝ }
+    requires { ⌜ (length (now table) ≡ at.SIZE) × (n ≤ at.WHEELS) ⌝ }
+    ensures { λ r. ⌜ r ≡ pushes binary32 up (directionsAt directions) n (now (table .entry)) chassis ⌝ }
 {
     let mut c = chassis;
     let mut i = 0usize;
     while i < n {
         let w = table::rows::get_wheel(table, i);
         let d = directions[i];
-        c = wheel::step::apply_friction(c, w, d, up);
+        c = wheel::step::apply_friction(up, d, w, c);
         i += 1usize;
     }
     c
 }
 
 // Refusal 7: whether the demands and the limit of a grounded wheel may stand.
-pub fn is_admitted(w: Wheel, dt: f32) -> bool
-    ensures { λ r. ⌜ r ≡ admits binary32 dt w ⌝ }
+fn is_admitted(s: Settings, dt: f32, w: Wheel) -> bool
+    ensures { λ r. ⌜ r ≡ admits binary32 s dt w ⌝ }
 {
     let m = w.motion;
     if !real::is_within(table::bounds::STORED, m.forward) {
@@ -83,26 +91,26 @@ pub fn is_admitted(w: Wheel, dt: f32) -> bool
     if !real::is_within(table::bounds::STORED, m.side) {
         return false;
     }
-    real::is_within(table::bounds::STORED, wheel::step::wheel_limit(w, dt))
+    real::is_within(table::bounds::STORED, wheel::step::wheel_limit(s, dt, w))
 }
 
 // The same of wheel i, if it is grounded.
-pub fn is_admitted_at(table: &[f32], i: usize, dt: f32, grounds: bool) -> bool
+fn is_admitted_at(table: &[f32], i: usize, dt: f32, contact: bool) -> bool
     requires { ⌜ (length (now table) ≡ at.SIZE) × (i < at.WHEELS) ⌝ }
-    ensures { λ r. ⌜ r ≡ pick grounds (admits binary32 dt (wheelAt (now (table .entry)) i)) true ⌝ }
+    ensures { λ r. ⌜ r ≡ pick contact (admits binary32 (wheelAt (now (table .entry)) i .settings) dt (wheelAt (now (table .entry)) i)) true ⌝ }
 {
-    if grounds {
+    if contact {
         let w = table::rows::get_wheel(table, i);
-        is_admitted(w, dt)
+        is_admitted(w.settings, dt, w)
     } else {
         true
     }
 }
 
 // The same of each of the first n wheels.
-pub fn are_admitted(table: &[f32], n: usize, dt: f32, answers: [RayAnswer; 16]) -> bool
+pub fn are_admitted(table: &[f32], n: usize, dt: f32, answers: [RayAnswer; WHEELS]) -> bool
     requires { ⌜ (length (now table) ≡ at.SIZE) × (n ≤ at.WHEELS) ⌝ }
-    ensures { λ r. ⌜ r ≡ demandsAdmitted binary32 dt answers n (now (table .entry)) ⌝ }
+    ensures { λ r. ⌜ r ≡ demandsAdmitted binary32 stored dt (answerAt answers) n (now (table .entry)) ⌝ }
 {
     let mut i = 0usize;
     while i < n {

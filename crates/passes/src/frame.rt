@@ -1,18 +1,19 @@
 // What a drive's ray answers say: which wheels are grounded, how many, and on what.
 use body::GroundBody;
+use table::layout::WHEELS;
 use wheel::Ground;
 use wheel::RayAnswer;
 ghost use mathlib.Core.Path.{_≡_};
-ghost use Prim.Native.Nat.{ℕ, _+_, _*_, _<_, _≤_};
+ghost use Prim.Native.Nat.{_≤_};
 ghost use lib.ListN.{length};
 ghost use Rattle.table.specs.Layout as at;
-ghost use Rattle.wheel.specs.Ray.{namedOf};
-ghost use Rattle.passes.specs.Frame.{groundedWheels, groundNamed};
+ghost use Rattle.wheel.specs.Ray.{answerAt, namedOf};
+ghost use Rattle.passes.specs.Frame.{groundedWheels, groundNamed, groundUnder, Grounds};
 
 // How many of the first n wheels are grounded.
-pub fn count_grounded(answers: [RayAnswer; 16], n: usize) -> u8
+pub fn count_grounded(answers: [RayAnswer; WHEELS], n: usize) -> u8
     requires { ⌜ n ≤ at.WHEELS ⌝ }
-    ensures { λ r. ⌜ r ≡ groundedWheels answers n ⌝ }
+    ensures { λ r. ⌜ r ≡ groundedWheels (answerAt answers) n ⌝ }
 {
     let mut grounded: u8 = 0;
     let mut i = 0usize;
@@ -25,20 +26,9 @@ pub fn count_grounded(answers: [RayAnswer; 16], n: usize) -> u8
     grounded
 }
 
-// The number that an answer names its ground body by; 0 for none.
-pub fn named(answer: RayAnswer) -> u32
-    ensures { λ r. ⌜ r ≡ namedOf answer ⌝ }
-{
-    match answer {
-        RayAnswer::Nothing => 0,
-        RayAnswer::Hit(_, _, n) => n,
-        RayAnswer::HitUp(_, _, _, n) => n,
-    }
-}
-
-// The ground body of that number, by value.
-pub fn ground_named(bodies: &[f32], dynamic: &[bool], n: u32) -> Ground
-    requires { ⌜ (n ≤ length (now dynamic)) × (length (now dynamic) ≤ at.BODIES) × (length (now bodies) ≡ length (now dynamic) * at.BODY) ⌝ }
+// The ground body of a number, by value; 0 names none.
+fn ground_named(bodies: &[f32], dynamic: &[bool], n: u32) -> Ground
+    requires { ⌜ (n ≤ length (now dynamic)) × Grounds (now bodies) (now dynamic) ⌝ }
     ensures { λ r. ⌜ r ≡ groundNamed (now (bodies .entry)) (now (dynamic .entry)) n ⌝ }
 {
     if n == 0 {
@@ -51,4 +41,12 @@ pub fn ground_named(bodies: &[f32], dynamic: &[bool], n: u32) -> Ground
             dynamic: dynamic[i],
         })
     }
+}
+
+// The ground body under a wheel with this answer.
+pub fn ground_under(bodies: &[f32], dynamic: &[bool], answer: RayAnswer) -> Ground
+    requires { ⌜ (namedOf answer ≤ length (now dynamic)) × Grounds (now bodies) (now dynamic) ⌝ }
+    ensures { λ r. ⌜ r ≡ groundUnder (now (bodies .entry)) (now (dynamic .entry)) answer ⌝ }
+{
+    ground_named(bodies, dynamic, wheel::ray::named_of(answer))
 }

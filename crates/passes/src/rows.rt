@@ -1,21 +1,19 @@
 // Passes that change each wheel's row, in the source's order, but for the rescale of rule 8, which is crate `slides`. The first function of a pair changes one wheel, the second is the pass.
 use body::Body;
+use table::layout::WHEELS;
 use vector::Pose;
 use wheel::Directions;
 use wheel::RayAnswer;
 ghost use mathlib.Core.Path.{_≡_};
-ghost use Prim.Native.Nat.{ℕ, _+_, _*_, _<_, _≤_};
+ghost use Prim.Native.Nat.{_<_, _≤_};
 ghost use lib.ListN.{length};
 ghost use lib.Ieee.{binary32};
 ghost use Rattle.table.specs.Layout as at;
 ghost use Rattle.table.specs.Rows.{wheelAt, putWheel};
-ghost use Rattle.passes.specs.Frame.{frame, answerAt};
-ghost use Rattle.wheel.specs.Ray.{namedOf, castOf};
-ghost use Rattle.wheel.specs.Step.{suspendedOf, spunOf};
-ghost use Rattle.wheel.specs.Directions.{directionsOf};
-ghost use Rattle.passes.specs.Directed.{Directed};
-ghost use Rattle.passes.specs.OneWheel.{demandedOf};
-ghost use Rattle.passes.specs.Passes.{changed, transformAt, transforms, casts, suspensions, demands, spins};
+ghost use Rattle.wheel.specs.Ray.{answerAt, namedOf, rayCast};
+ghost use Rattle.wheel.specs.Step.{suspendedOf, updateRotation};
+ghost use Rattle.passes.specs.Frame.{frame, Grounds, Listed};
+ghost use Rattle.passes.specs.Passes.{stored, changed, transformAt, transforms, casts, suspensions, directionsAt, demandOf, demands, spins};
 
 // Rule 1.
 pub fn transform_wheel(table: &mut [f32], i: usize, pose: Pose)
@@ -23,7 +21,7 @@ pub fn transform_wheel(table: &mut [f32], i: usize, pose: Pose)
     ensures { λ _. ⌜ now (table .exit) ≡ changed (transformAt binary32 pose) i (now (table .entry)) ⌝ }
 {
     let w = table::rows::get_wheel(&table[..], i);
-    table::rows::put_wheel(table, i, wheel::ray::update_wheel_transform(w, pose));
+    table::rows::put_wheel(table, i, wheel::ray::update_wheel_transform(pose, w));
 }
 
 pub fn transform_pass(table: &mut [f32], n: usize, pose: Pose)
@@ -37,21 +35,21 @@ pub fn transform_pass(table: &mut [f32], n: usize, pose: Pose)
     }
 }
 
-// Rules 3 to 5, with the wheel's answer.
+// Rules 3 to 5, with the wheel's answer. The settings that count in a step are the stored ones, here and below.
 pub fn cast_wheel(table: &mut [f32], i: usize, chassis: Body, answer: RayAnswer)
     requires { ⌜ (length (now table) ≡ at.SIZE) × (i < at.WHEELS) ⌝ }
-    ensures { λ _. ⌜ now (table .exit) ≡ putWheel (now (table .entry)) i (castOf binary32 chassis (wheelAt (now (table .entry)) i) answer) ⌝ }
+    ensures { λ _. ⌜ now (table .exit) ≡ putWheel (now (table .entry)) i (rayCast binary32 (wheelAt (now (table .entry)) i .settings) chassis answer (wheelAt (now (table .entry)) i)) ⌝ }
 {
     let w = table::rows::get_wheel(&table[..], i);
-    let r = wheel::ray::ray_cast(w, chassis, answer);
+    let r = wheel::ray::ray_cast(w.settings, chassis, answer, w);
     let info = r.info;
     let approach = r.approach;
     table::rows::put_contact(table, i, info, approach);
 }
 
-pub fn cast_pass(table: &mut [f32], n: usize, chassis: Body, answers: [RayAnswer; 16])
+pub fn cast_pass(table: &mut [f32], n: usize, chassis: Body, answers: [RayAnswer; WHEELS])
     requires { ⌜ (length (now table) ≡ at.SIZE) × (n ≤ at.WHEELS) ⌝ }
-    ensures { λ _. ⌜ now (table .exit) ≡ casts binary32 chassis answers n (now (table .entry)) ⌝ }
+    ensures { λ _. ⌜ now (table .exit) ≡ casts binary32 stored chassis (answerAt answers) n (now (table .entry)) ⌝ }
 {
     let mut i = 0usize;
     while i < n {
@@ -62,17 +60,17 @@ pub fn cast_pass(table: &mut [f32], n: usize, chassis: Body, answers: [RayAnswer
 }
 
 // Rule 6, the force.
-pub fn suspend_wheel(table: &mut [f32], i: usize, invmass: f32, grounds: bool)
+pub fn suspend_wheel(table: &mut [f32], i: usize, invmass: f32, contact: bool)
     requires { ⌜ (length (now table) ≡ at.SIZE) × (i < at.WHEELS) ⌝ }
-    ensures { λ _. ⌜ now (table .exit) ≡ putWheel (now (table .entry)) i (suspendedOf binary32 invmass grounds (wheelAt (now (table .entry)) i)) ⌝ }
+    ensures { λ _. ⌜ now (table .exit) ≡ putWheel (now (table .entry)) i (suspendedOf binary32 (wheelAt (now (table .entry)) i .settings) invmass contact (wheelAt (now (table .entry)) i)) ⌝ }
 {
     let w = table::rows::get_wheel(&table[..], i);
-    table::rows::put_force(table, i, wheel::step::wheel_force(w, invmass, grounds));
+    table::rows::put_force(table, i, wheel::step::wheel_force(w.settings, invmass, contact, w));
 }
 
-pub fn suspension_pass(table: &mut [f32], n: usize, invmass: f32, answers: [RayAnswer; 16])
+pub fn suspension_pass(table: &mut [f32], n: usize, invmass: f32, answers: [RayAnswer; WHEELS])
     requires { ⌜ (length (now table) ≡ at.SIZE) × (n ≤ at.WHEELS) ⌝ }
-    ensures { λ _. ⌜ now (table .exit) ≡ suspensions binary32 invmass answers n (now (table .entry)) ⌝ }
+    ensures { λ _. ⌜ now (table .exit) ≡ suspensions binary32 stored invmass (answerAt answers) n (now (table .entry)) ⌝ }
 {
     let mut i = 0usize;
     while i < n {
@@ -86,7 +84,7 @@ pub fn suspension_pass(table: &mut [f32], n: usize, invmass: f32, answers: [RayA
 pub fn friction_wheel(
     table: &mut [f32],
     i: usize,
-    r: Directions,
+    d: Directions,
     dt: f32,
     chassis: Body,
     bodies: &[f32],
@@ -94,53 +92,62 @@ pub fn friction_wheel(
     answer: RayAnswer,
     grounded: u8,
 )
-    requires { ⌜ (length (now table) ≡ at.SIZE) × (i < at.WHEELS) × (r ≡ directionsOf binary32 (wheelAt (now table) i)) × (namedOf answer ≤ length (now dynamic)) × (length (now dynamic) ≤ at.BODIES) × (length (now bodies) ≡ length (now dynamic) * at.BODY) ⌝ }
-    ensures { λ _. ⌜ now (table .exit) ≡ putWheel (now (table .entry)) i (demandedOf binary32 dt chassis (now (bodies .entry)) (now (dynamic .entry)) answer grounded (wheelAt (now (table .entry)) i)) ⌝ }
+    requires { ⌜ (length (now table) ≡ at.SIZE) × (i < at.WHEELS) × (namedOf answer ≤ length (now dynamic)) × Grounds (now bodies) (now dynamic) ⌝ }
+    ensures { λ _. ⌜ now (table .exit) ≡ putWheel (now (table .entry)) i (demandOf binary32 stored dt chassis (now (bodies .entry)) (now (dynamic .entry)) answer grounded d (wheelAt (now (table .entry)) i)) ⌝ }
 {
     let w = table::rows::get_wheel(&table[..], i);
-    let grounds = wheel::ray::is_grounded(answer);
-    let ground = super::frame::ground_named(bodies, dynamic, super::frame::named(answer));
-    let d = wheel::step::friction(w, r, dt, chassis, grounds, ground, grounded);
-    table::rows::put_friction(table, i, d);
+    let contact = wheel::ray::is_grounded(answer);
+    let ground = super::frame::ground_under(bodies, dynamic, answer);
+    let friction = wheel::step::friction_of(
+        w.settings,
+        dt,
+        chassis,
+        contact,
+        ground,
+        grounded,
+        d,
+        w,
+    );
+    table::rows::put_friction(table, i, friction);
 }
 
 pub fn friction_pass(
     table: &mut [f32],
     n: usize,
-    directions: [Directions; 16],
+    directions: [Directions; WHEELS],
     dt: f32,
     chassis: Body,
     bodies: &[f32],
     dynamic: &[bool],
-    answers: [RayAnswer; 16],
+    answers: [RayAnswer; WHEELS],
     grounded: u8,
 )
-    requires { ⌜ (length (now table) ≡ at.SIZE) × (n ≤ at.WHEELS) × Directed binary32 n directions (now table) × ((i : ℕ) → i < n → namedOf (answerAt answers i) ≤ length (now dynamic)) × (length (now dynamic) ≤ at.BODIES) × (length (now bodies) ≡ length (now dynamic) * at.BODY) ⌝ }
-    ensures { λ _. ⌜ now (table .exit) ≡ demands binary32 (frame dt (now (bodies .entry)) (now (dynamic .entry)) answers) chassis grounded n (now (table .entry)) ⌝ }
+    requires { ⌜ (length (now table) ≡ at.SIZE) × (n ≤ at.WHEELS) × Listed (now bodies) (now dynamic) (answerAt answers) n ⌝ }
+    ensures { λ _. ⌜ now (table .exit) ≡ demands binary32 stored (frame dt (now (bodies .entry)) (now (dynamic .entry)) (answerAt answers)) chassis grounded (directionsAt directions) n (now (table .entry)) ⌝ }
 {
     let mut i = 0usize;
     while i < n {
         let a = answers[i];
-        let r = directions[i];
-        friction_wheel(table, i, r, dt, chassis, bodies, dynamic, a, grounded);
+        let d = directions[i];
+        friction_wheel(table, i, d, dt, chassis, bodies, dynamic, a, grounded);
         i += 1usize;
     }
 }
 
 // Rule 10.
-pub fn spin_wheel(table: &mut [f32], i: usize, dt: f32, chassis: Body, grounds: bool)
+pub fn spin_wheel(table: &mut [f32], i: usize, dt: f32, chassis: Body, contact: bool)
     requires { ⌜ (length (now table) ≡ at.SIZE) × (i < at.WHEELS) ⌝ }
-    ensures { λ _. ⌜ now (table .exit) ≡ putWheel (now (table .entry)) i (spunOf binary32 dt grounds chassis (wheelAt (now (table .entry)) i)) ⌝ }
+    ensures { λ _. ⌜ now (table .exit) ≡ putWheel (now (table .entry)) i (updateRotation binary32 (wheelAt (now (table .entry)) i .settings) dt contact chassis (wheelAt (now (table .entry)) i)) ⌝ }
 {
     let w = table::rows::get_wheel(&table[..], i);
-    let r = wheel::step::update_rotation(w, dt, grounds, chassis);
+    let r = wheel::step::update_rotation(w.settings, dt, contact, chassis, w);
     let m = r.motion;
     table::rows::put_turn(table, i, m.rotation, m.spin);
 }
 
-pub fn spin_pass(table: &mut [f32], n: usize, dt: f32, chassis: Body, answers: [RayAnswer; 16])
+pub fn spin_pass(table: &mut [f32], n: usize, dt: f32, chassis: Body, answers: [RayAnswer; WHEELS])
     requires { ⌜ (length (now table) ≡ at.SIZE) × (n ≤ at.WHEELS) ⌝ }
-    ensures { λ _. ⌜ now (table .exit) ≡ spins binary32 dt chassis answers n (now (table .entry)) ⌝ }
+    ensures { λ _. ⌜ now (table .exit) ≡ spins binary32 stored dt chassis (answerAt answers) n (now (table .entry)) ⌝ }
 {
     let mut i = 0usize;
     while i < n {

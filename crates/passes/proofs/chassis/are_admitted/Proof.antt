@@ -9,12 +9,13 @@ use Rattle.lists.specs.Counted.{every}
 use Rattle.lists.proofs.Picks.{told}
 use Rattle.lists.proofs.Turns.{every-yes, every-no, every-end}
 use Rattle.passes.specs.Frame.{groundedAt}
-use Rattle.passes.specs.Passes.{admittedAt, demandsAdmitted}
+use Rattle.wheel.specs.Ray.{answerAt}
+use Rattle.passes.specs.Passes.{stored, admittedAt, demandsAdmitted}
 use Rattle.passes.proofs.chassis.are_admitted.Statement.{statement}
 use Rattle.passes.proofs.chassis.are_admitted.Tie as tie
 
 abbrev Inv-loop : tie.InvT-loop
-Inv-loop table n dt answers i₀ i = (i ≤ n) × (demandsAdmitted binary32 dt answers n table ≡ every (admittedAt binary32 dt answers table) (n - i) i)
+Inv-loop table n dt answers i₀ i = (i ≤ n) × (demandsAdmitted binary32 stored dt (answerAt answers) n table ≡ every (admittedAt binary32 stored dt (answerAt answers) table) (n - i) i)
 
 abbrev μ-loop : tie.MeasureT-loop
 μ-loop table n dt answers i₀ i = n - i

@@ -3,20 +3,20 @@ use borrow.Author.Needs.{needs}
 use Prim.Native.Nat.{_-_}
 use native.Mathlib.Omega.{arith}
 use lib.Ieee.{binary32}
-use Rattle.wheel.specs.Step.{springOf}
-use Rattle.passes.specs.Passes.{springs}
+use Rattle.passes.specs.Passes.{stored, springAt, springs}
 use Rattle.lists.proofs.Turns.{turning-start}
 use Rattle.passes.proofs.Laws.{Moving, moving-again, moving-done}
 use Rattle.passes.proofs.chassis.spring_pass.Statement.{statement}
 use Rattle.passes.proofs.chassis.spring_pass.Tie as tie
 
 abbrev Inv-loop : tie.InvT-loop
-Inv-loop table n dt c₀ i₀ c i = Moving (springOf binary32 dt) n table c₀ i c
+Inv-loop table n dt c₀ i₀ c i = Moving (springAt binary32 stored dt) n table c₀ i c
 
 abbrev μ-loop : tie.MeasureT-loop
 μ-loop table n dt c₀ i₀ c i = n - i
 
 loop-again : tie.Need-loop-again Inv-loop μ-loop
+unfolding springAt
 loop-again c = moving-again _ _ _ _ _ _ _ _ (c .before .before .before .loop .inv) (omega arith) (c .before .get-wheel .ensures) (c .apply-suspension .ensures)
 
 returns : tie.Need-returns Inv-loop μ-loop

@@ -8,12 +8,13 @@ use native.Mathlib.Omega.{arith}
 use Rattle.lists.specs.Counted.{tally}
 use Rattle.lists.proofs.Picks.{told}
 use Rattle.lists.proofs.Turns.{tally-yes, tally-no, tally-end}
+use Rattle.wheel.specs.Ray.{answerAt}
 use Rattle.passes.specs.Frame.{groundedAt, groundedWheels}
 use Rattle.passes.proofs.frame.count_grounded.Statement.{statement}
 use Rattle.passes.proofs.frame.count_grounded.Tie as tie
 
 abbrev Inv-loop : tie.InvT-loop
-Inv-loop n answers grounded₀ i₀ grounded i = (i ≤ n) × (grounded ≤ i) × (grounded + tally (groundedAt answers) (n - i) i ≡ groundedWheels answers n)
+Inv-loop n answers grounded₀ i₀ grounded i = (i ≤ n) × (grounded ≤ i) × (grounded + tally (groundedAt (answerAt answers)) (n - i) i ≡ groundedWheels (answerAt answers) n)
 
 abbrev μ-loop : tie.MeasureT-loop
 μ-loop n answers grounded₀ i₀ grounded i = n - i

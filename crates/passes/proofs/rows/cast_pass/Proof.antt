@@ -3,13 +3,14 @@ use borrow.Author.Needs.{needs}
 use Prim.Native.Nat.{_-_}
 use native.Mathlib.Omega.{arith}
 use lib.Ieee.{binary32}
-use Rattle.passes.specs.Passes.{changed, castAt, casts}
+use Rattle.wheel.specs.Ray.{answerAt}
+use Rattle.passes.specs.Passes.{stored, changed, castAt, casts}
 use Rattle.passes.proofs.Laws.{Passing, passing-start, passing-again, passing-done}
 use Rattle.passes.proofs.rows.cast_pass.Statement.{statement}
 use Rattle.passes.proofs.rows.cast_pass.Tie as tie
 
 abbrev Inv-loop : tie.InvT-loop
-Inv-loop table₀ n chassis answers i₀ table i = Passing (castAt binary32 chassis answers) n table₀ i table
+Inv-loop table₀ n chassis answers i₀ table i = Passing (castAt binary32 stored chassis (answerAt answers)) n table₀ i table
 
 abbrev μ-loop : tie.MeasureT-loop
 μ-loop table₀ n chassis answers i₀ table i = n - i

@@ -3,14 +3,15 @@ use borrow.Author.Needs.{needs}
 use Prim.Native.Nat.{_-_}
 use native.Mathlib.Omega.{arith}
 use lib.Ieee.{binary32}
+use Rattle.wheel.specs.Ray.{answerAt}
 use Rattle.passes.specs.Frame.{groundedAt}
-use Rattle.passes.specs.Passes.{changed, suspendAt, suspensions}
+use Rattle.passes.specs.Passes.{stored, changed, suspendAt, suspensions}
 use Rattle.passes.proofs.Laws.{Passing, passing-start, passing-again, passing-done}
 use Rattle.passes.proofs.rows.suspension_pass.Statement.{statement}
 use Rattle.passes.proofs.rows.suspension_pass.Tie as tie
 
 abbrev Inv-loop : tie.InvT-loop
-Inv-loop table₀ n invmass answers i₀ table i = Passing (suspendAt binary32 invmass answers) n table₀ i table
+Inv-loop table₀ n invmass answers i₀ table i = Passing (suspendAt binary32 stored invmass (answerAt answers)) n table₀ i table
 
 abbrev μ-loop : tie.MeasureT-loop
 μ-loop table₀ n invmass answers i₀ table i = n - i
