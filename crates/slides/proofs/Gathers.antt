@@ -1,4 +1,4 @@
--- Laws on records that are gathered from a table, rescaled and put back. In order: a loop that sets elements of a list, and what it leaves; record i once it is gathered and once it is rescaled;
+-- Laws on records that are gathered from a table, rescaled and put back. In order: record i once it is gathered and once it is rescaled;
 -- two passes that do the same to each wheel; the three steps are the pass. Assumes nothing.
 use Prim.Native.Nat.{ℕ, zero, suc, _+_, _≤_, _<_}
 use mathlib.Core.List.{List, map}
@@ -9,61 +9,39 @@ use lib.ListN.{length, take, drop, getD, length-set, length-map, length-replicat
 use lib.Seq.{getD-set-same, getD-set-other, getD-take, length-take-le}
 use lib.Ieee.{Float, Format, lt}
 use Rattle.lists.specs.Counted.{iter}
-use Rattle.wheel.specs.declared.Friction.{Friction}
+use Rattle.tyre.specs.declared.Friction.{Friction}
 use Rattle.wheel.specs.declared.Wheel.{Wheel}
-use Rattle.wheel.specs.Grip.{rescaledBy}
-use Rattle.wheel.specs.Step.{airborne, rescaledOf, frictionIn, withFriction}
+use Rattle.tyre.specs.Grip.{airborne, rescaledBy, rescaledOf}
+use Rattle.wheel.specs.Parts.{frictionIn, withFriction}
 use Rattle.table.specs.Layout as at
 use Rattle.table.specs.Rows.{wheelAt, putWheel}
 use Rattle.table.proofs.Laws.{length-put, wheel-other}
 use Rattle.passes.specs.Passes.{changed, eachWheel, rescaleAt, rescales}
-use Rattle.slides.specs.Slides.{none, gatheredAt, gathered, rescaledFirst, slideOver, scattered}
+use Rattle.passes.proofs.Gives.{length-gives, gives-at}
+use Rattle.slides.specs.Slides.{none, gathered, rescaledFirst, slideOver, scattered}
 
 none-stays : (f : Format) → none ≡ rescaledOf f none
 unfolding rescaledOf rescaledBy lt
 none-stays f = refl
 
-module _ (t : List Float) where
-  -- ---- k turns from i on of a loop that gathers
-  length-gathering : (k i : ℕ) (l : List Friction) → length (iter (gatheredAt t) k i l) ≡ length l
-  unfolding iter gatheredAt
-  length-gathering zero i l = refl
-  length-gathering (suc k) i l = length-gathering k (suc i) _ ∙ length-set l i _
+module _ (t : List Float) (n : ℕ) (l : n ≤ at.WHEELS) where
+  length-gathered : length (gathered n t) ≡ at.WHEELS
+  unfolding gathered
+  length-gathered = length-gives frictionIn none t airborne n
 
-  gathered-outside : (k i j : ℕ) (l : List Friction) → j < i → getD (iter (gatheredAt t) k i l) j none ≡ getD l j none
-  unfolding iter gatheredAt
-  gathered-outside zero i j l h = refl
-  gathered-outside (suc k) i j l h = gathered-outside k (suc i) j _ (omega arith) ∙ getD-set-other l i j _ none (λ e. omega arith)
+  -- ---- record i, gathered, and then rescaled
+  record-gathered : (i : ℕ) → i < n → getD (gathered n t) i none ≡ frictionIn (wheelAt t i)
+  unfolding gathered
+  record-gathered i h = gives-at frictionIn none t airborne n i l h
 
-  gathered-inside : (k i j : ℕ) (l : List Friction) → i ≤ j → j < i + k → j < length l → getD (iter (gatheredAt t) k i l) j none ≡ frictionIn (wheelAt t j)
-  unfolding iter gatheredAt
-  gathered-inside zero i j l a b c = absurd (omega arith)
-  gathered-inside (suc k) i j l a b c =
-      elim (decLt i j) [
-        | yes u ↦ gathered-inside k (suc i) j _ u (omega arith) (omega (arith, length-set l i (frictionIn (wheelAt t i))))
-        | no u ↦ (
-            let e : j ≡ i = omega arith in
-            gathered-outside k (suc i) j _ (omega arith) ∙ rw e (getD-set-same l i _ none (omega arith)))
-      ]
-
-  module _ (n : ℕ) (l : n ≤ at.WHEELS) where
-    length-gathered : length (gathered n t) ≡ at.WHEELS
-    unfolding gathered
-    length-gathered = length-gathering n 0 _ ∙ length-replicate at.WHEELS airborne
-
-    -- ---- record i, gathered, and then rescaled
-    record-gathered : (i : ℕ) → i < n → getD (gathered n t) i none ≡ frictionIn (wheelAt t i)
-    unfolding gathered
-    record-gathered i h = gathered-inside n 0 i _ (omega arith) (omega arith) (omega (arith, length-replicate at.WHEELS airborne))
-
-    record-rescaled : (f : Format) (i : ℕ) → i < n → getD (rescaledFirst f n (gathered n t)) i none ≡ rescaledOf f (frictionIn (wheelAt t i))
-    unfolding rescaledFirst
-    record-rescaled f i h =
-        let first : length (map (rescaledOf f) (take n (gathered n t))) ≡ n = length-map (take n (gathered n t)) (rescaledOf f) ∙ length-take-le n (gathered n t) (omega (arith, length-gathered)) in
-        List·getD-append (map (rescaledOf f) (take n (gathered n t))) (drop n (gathered n t)) none i (omega arith)
-        ∙ ap (getD (map (rescaledOf f) (take n (gathered n t))) i) (none-stays f)
-        ∙ List·getD-map (rescaledOf f) (take n (gathered n t)) i none
-        ∙ ap (rescaledOf f) (getD-take n (gathered n t) i none h ∙ record-gathered i h)
+  record-rescaled : (f : Format) (i : ℕ) → i < n → getD (rescaledFirst f n (gathered n t)) i none ≡ rescaledOf f (frictionIn (wheelAt t i))
+  unfolding rescaledFirst
+  record-rescaled f i h =
+      let first : length (map (rescaledOf f) (take n (gathered n t))) ≡ n = length-map (take n (gathered n t)) (rescaledOf f) ∙ length-take-le n (gathered n t) (omega (arith, length-gathered)) in
+      List·getD-append (map (rescaledOf f) (take n (gathered n t))) (drop n (gathered n t)) none i (omega arith)
+      ∙ ap (getD (map (rescaledOf f) (take n (gathered n t))) i) (none-stays f)
+      ∙ List·getD-map (rescaledOf f) (take n (gathered n t)) i none
+      ∙ ap (rescaledOf f) (getD-take n (gathered n t) i none h ∙ record-gathered i h)
 
 -- ---- two passes that do the same to each wheel
 module _ (g h : ℕ → Wheel → Wheel) where

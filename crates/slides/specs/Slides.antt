@@ -5,23 +5,21 @@ use mathlib.Core.List.{List, map, _++_}
 use lib.ListN.{take, drop, getD, set, replicate}
 use lib.Ieee.{Float, Format, nan}
 use Rattle.lists.specs.Counted.{iter}
-use Rattle.wheel.specs.declared.Friction.{Friction}
+use Rattle.tyre.specs.declared.Friction.{Friction}
 use Rattle.wheel.specs.declared.Wheel.{Wheel}
-use Rattle.wheel.specs.Step.{airborne, rescaledOf, frictionIn, withFriction}
+use Rattle.tyre.specs.Grip.{airborne, rescaledOf}
+use Rattle.wheel.specs.Parts.{frictionIn, withFriction}
 use Rattle.table.specs.Layout as at
 use Rattle.table.specs.Rows.{wheelAt}
-use Rattle.passes.specs.Passes.{eachWheel}
+use Rattle.passes.specs.Passes.{eachWheel, eachGives}
 
 -- what is read past the end of a list of records
 abbrev pub none : Friction
 none = record { forward = nan; side = nan; skid = nan }
 
 -- the records of the first n wheels, in an array for all; a place past them holds that of a wheel in the air
-unfoldable pub gatheredAt : List Float → ℕ → List Friction → List Friction
-gatheredAt t i l = set l i (frictionIn (wheelAt t i))
-
 unfoldable pub gathered : ℕ → List Float → List Friction
-gathered n t = iter (gatheredAt t) n 0 (replicate at.WHEELS airborne)
+gathered n t = eachGives frictionIn airborne n t
 
 -- the first n records rescaled, each by its own skid
 unfoldable pub rescaledFirst : Format → ℕ → List Friction → List Friction

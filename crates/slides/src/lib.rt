@@ -4,13 +4,15 @@ use table::layout::KEPT;
 use table::layout::ROW;
 use table::layout::SIDE_IMPULSE;
 use table::layout::SKID;
-use wheel::Friction;
+use table::layout::WHEELS;
+use tyre::Friction;
 ghost use mathlib.Core.Path.{_≡_};
 ghost use Prim.Native.Nat.{_<_, _≤_};
 ghost use mathlib.Core.List.{map};
 ghost use lib.ListN.{length};
 ghost use lib.Ieee.{binary32};
-ghost use Rattle.wheel.specs.Step.{rescaledOf, frictionIn};
+ghost use Rattle.tyre.specs.Grip.{rescaledOf};
+ghost use Rattle.wheel.specs.Parts.{frictionIn};
 ghost use Rattle.table.specs.Layout as at;
 ghost use Rattle.table.specs.Rows.{wheelOf, wheelAt};
 ghost use Rattle.passes.specs.Passes.{rescales};
@@ -33,7 +35,7 @@ pub fn rescale(slides: &mut [Friction])
 }
 
 // The first n records after the rescale, the others as they are: those n are lent.
-fn rescale_first(slides: [Friction; 16], n: usize) -> [Friction; 16]
+fn rescale_first(slides: [Friction; WHEELS], n: usize) -> [Friction; WHEELS]
     requires { ⌜ n ≤ at.WHEELS ⌝ }
     ensures { λ r. ⌜ r ≡ rescaledFirst binary32 n slides ⌝ }
 {
@@ -65,16 +67,12 @@ fn get_slide(table: &[f32], i: usize) -> Friction
 }
 
 // The records of the first n wheels; those of a wheel in the air after them.
-fn gather(table: &[f32], n: usize) -> [Friction; 16]
+fn gather(table: &[f32], n: usize) -> [Friction; WHEELS]
     requires { ⌜ (length (now table) ≡ at.SIZE) × (n ≤ at.WHEELS) ⌝ }
     ensures { λ r. ⌜ r ≡ gathered n (now (table .entry)) ⌝ }
 {
-    let airborne = Friction {
-        forward: 0.0,
-        side: 0.0,
-        skid: 1.0,
-    };
-    let mut slides = [airborne; 16];
+    let airborne = tyre::grip::airborne();
+    let mut slides = [airborne; WHEELS];
     let mut i = 0usize;
     while i < n {
         slides[i] = get_slide(table, i);
@@ -84,7 +82,7 @@ fn gather(table: &[f32], n: usize) -> [Friction; 16]
 }
 
 // The table with the first n records in the rows of the first n wheels.
-fn scatter(table: &mut [f32], n: usize, slides: [Friction; 16])
+fn scatter(table: &mut [f32], n: usize, slides: [Friction; WHEELS])
     requires { ⌜ (length (now table) ≡ at.SIZE) × (n ≤ at.WHEELS) ⌝ }
     ensures { λ _. ⌜ now (table .exit) ≡ scattered slides n (now (table .entry)) ⌝ }
 {

@@ -3,7 +3,7 @@ use mathlib.Core.List.{List}
 use mathlib.Core.Path.{_∙_, ap}
 use lib.Ieee.{Float}
 use Rattle.lists.proofs.Parts.{part-is}
-use Rattle.wheel.specs.Step.{frictionIn}
+use Rattle.wheel.specs.Parts.{frictionIn}
 use Rattle.table.specs.Layout as at
 use Rattle.table.specs.Rows.{wheelOf, wheelAt, rowStart}
 use borrow.Author.Needs.{needs}

@@ -47,11 +47,11 @@ use denote.Triple.Entry.{onEntry}
 use denote.Triple.Spec.{Meets, tripleOf}
 use denote.Triple.Table.{entered}
 use denote.Triple.Walked.{says, Stays, stay-slice, walkOf, goes-slice, Walks, ends-at, walked, walk-meets}
-use Rattle.wheel.specs.declared.Friction.{Friction}
-use Rattle.wheel.specs.Step.{rescaledOf}
-use Rattle.wheel.specs.Grip.{rescaledBy}
-use Rattle.wheel.proofs.Friction as T
-use Rattle.wheel.proofs.Friction.Laws as T′
+use Rattle.tyre.specs.declared.Friction.{Friction}
+use Rattle.tyre.specs.Grip.{rescaledOf}
+use Rattle.tyre.specs.Grip.{rescaledBy}
+use Rattle.tyre.proofs.Friction as T
+use Rattle.tyre.proofs.Friction.Laws as T′
 use Rattle.slides.specs.Slides.{none}
 use Rattle.slides.proofs.Field.{takes, sets}
 use Rattle.slides.proofs.Each.{upTo, upTo-length, upTo-set, upTo-all}

@@ -53,10 +53,10 @@ use denote.Triple.Table.{entered, cited}
 use denote.Triple.Walked.{says, needs, Stays, stay-dropped, walkOf, goes-dropped, Walks, ends-at, walked, walk-meets}
 use denote.Exit.{yes}
 use borrow.Table.Elements.{at, cut-app, join-app}
-use Rattle.wheel.specs.declared.Friction.{Friction}
-use Rattle.wheel.specs.Step.{rescaledOf}
-use Rattle.wheel.proofs.Friction as T
-use Rattle.wheel.proofs.Friction.Laws as T′
+use Rattle.tyre.specs.declared.Friction.{Friction}
+use Rattle.tyre.specs.Grip.{rescaledOf}
+use Rattle.tyre.proofs.Friction as T
+use Rattle.tyre.proofs.Friction.Laws as T′
 use Rattle.slides.specs.Slides.{rescaledFirst}
 use Rattle.slides.proofs.rescale as pass
 use Rattle.slides.proofs.rescale.Symbol as pass-def

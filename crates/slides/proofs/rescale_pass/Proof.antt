@@ -3,7 +3,7 @@ use borrow.Author.Needs.{needs}
 use mathlib.Core.List.{List}
 use mathlib.Core.Path.{ap, _∙_}
 use lib.Ieee.{binary32}
-use Rattle.wheel.specs.declared.Friction.{Friction}
+use Rattle.tyre.specs.declared.Friction.{Friction}
 use Rattle.slides.specs.Slides.{rescaledFirst, scattered}
 use Rattle.slides.proofs.Gathers.{scattered-is-pass}
 use Rattle.slides.proofs.rescale_pass.Statement.{statement}
