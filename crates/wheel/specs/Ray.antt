@@ -1,6 +1,8 @@
 -- Document 01, rules 1 and 3 to 5 for one wheel: its transform, its ray, and what the ray answer makes of it. Definitions only.
 use Prim.Native.Nat.{ℕ}
 use mathlib.Core.Bool.{Bool, true, false, cond, _&&_}
+use mathlib.Core.List.{List}
+use lib.ListN.{getD}
 use lib.Ieee.{Float, Format, add, eq}
 use Rattle.real.specs.Number.{zero, one}
 use Rattle.vector.specs.declared.Vector.{Vector}
@@ -97,3 +99,7 @@ unfoldable pub namedOf : RayAnswer → ℕ
 namedOf Nothing = 0
 namedOf (Hit time normal named) = named
 namedOf (HitUp time normal upward named) = named
+
+-- the answer of wheel i
+abbrev pub answerAt : List RayAnswer → ℕ → RayAnswer
+answerAt answers i = getD answers i Nothing
