@@ -1,8 +1,8 @@
 -- Counted loops: k turns, numbered from i on. Definitions only.
 use Prim.Native.Nat.{ℕ, zero, suc}
-use mathlib.Core.Bool.{Bool, true, false}
+use mathlib.Core.Bool.{Bool, true}
 use mathlib.Core.List.{List, [], _∷_}
-use Rattle.lists.specs.Pick.{pick}
+use Rattle.lists.specs.Pick.{pick, _and_}
 
 -- each turn changes the state s
 module _ {S : Type 0} (f : ℕ → S → S) where
@@ -13,7 +13,7 @@ module _ {S : Type 0} (f : ℕ → S → S) where
 -- whether a test holds of each number
 unfoldable pub every : (ℕ → Bool) → ℕ → ℕ → Bool
 every p zero i = true
-every p (suc k) i = pick (p i) (every p k (suc i)) false
+every p (suc k) i = p i and every p k (suc i)
 
 -- of how many numbers it holds
 unfoldable pub tally : (ℕ → Bool) → ℕ → ℕ → ℕ

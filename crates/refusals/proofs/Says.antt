@@ -6,8 +6,9 @@ use mathlib.Core.List.{List}
 use mathlib.Core.Path.{_≡_}
 use native.Mathlib.Omega.{arith}
 use borrow.Author.Tests.{eqb-true, leb-true}
-use lib.ListN.{length, getD}
+use lib.ListN.{length}
 use lib.Ieee.{Float, Format, lt, le}
+use Rattle.lists.specs.All.{all}
 use Rattle.lists.specs.Counted.{every}
 use Rattle.lists.proofs.Picks.{pick-true, told-yes}
 use Rattle.lists.proofs.Turns.{every-at}
@@ -21,9 +22,9 @@ use Rattle.wheel.specs.declared.RayAnswer.the-variants.{Nothing, Hit, HitUp}
 use Rattle.table.specs.Layout as at
 use Rattle.table.specs.Rows.{wheelAt, bodyAt}
 use Rattle.refusals.specs.Shape.{countOf, markOf, upOf, forwardOf, sizesOk, axesOk, statusOk, shapeOk}
-use Rattle.refusals.specs.Ranges.{inRange, inUnit, notNegative, springInRange, sizesInRange, tyreInRange, settingsInRange, squaresOf, BAND-LOW, BAND-HIGH, rotationInRange, controlsInRange, LEAST-INVMASS, chassisInRange, bodyInRange, bodiesInRange, wheelInRange, storedInRange}
+use Rattle.refusals.specs.Ranges.{inRange, inUnit, notNegative, settingsInRange, sumOfSquares, BAND-LOW, BAND-HIGH, rotationInRange, controlsInRange, LEAST-INVMASS, chassisInRange, bodyInRange, bodiesInRange, wheelInRange, storedInRange}
 use Rattle.wheel.specs.Ray.{namedOf}
-use Rattle.refusals.specs.Handed.{hitOk, answerOk, answerOkAt, answersOk}
+use Rattle.refusals.specs.Handed.{hitOk, answerOk, answersOk}
 
 -- ---- refusal 1
 pub record Sizes (t : List Float) (m : List ℕ) : Type 0 where
@@ -87,47 +88,48 @@ pub unit-says : (x : Float) → inUnit x ≡ true → Between zero one x
 unfolding inUnit
 unit-says x h = range-says zero one x h
 
-pub rotation-says : (f : Format) (q : Rotation) → rotationInRange f q ≡ true → Between BAND-LOW BAND-HIGH (squaresOf f q)
+pub rotation-says : (f : Format) (q : Rotation) → rotationInRange f q ≡ true → Between BAND-LOW BAND-HIGH (sumOfSquares f q)
 unfolding rotationInRange
-rotation-says f q h = range-says BAND-LOW BAND-HIGH (squaresOf f q) h
+rotation-says f q h = range-says BAND-LOW BAND-HIGH (sumOfSquares f q) h
 
 pub record SettingsRange (s : Settings) : Type 0 where
   pub radius : lt zero (s .radius) ≡ true
   pub rest : le zero (s .rest) ≡ true
   pub travel : le zero (s .travel) ≡ true
+  pub slip : le zero (s .slip) ≡ true
   pub stiffness : le zero (s .stiffness) ≡ true
   pub compression : le zero (s .compression) ≡ true
   pub relaxation : le zero (s .relaxation) ≡ true
-  pub most : le zero (s .most) ≡ true
-  pub slip : le zero (s .slip) ≡ true
   pub side : le zero (s .side) ≡ true
+  pub most : le zero (s .most) ≡ true
 
 pub settings-say : (s : Settings) → settingsInRange s ≡ true → SettingsRange s
-unfolding settingsInRange sizesInRange springInRange tyreInRange notNegative
+unfolding settingsInRange all notNegative
 settings-say s h =
-    let p = pick-true _ _ h in
-    let q = pick-true _ _ (p .1) in
-    let size = pick-true _ _ (p .0) in
-    let length = pick-true _ _ (size .1) in
-    let spring = pick-true _ _ (q .0) in
-    let damping = pick-true _ _ (spring .1) in
-    let last = pick-true _ _ (damping .1) in
-    let tyre = pick-true _ _ (q .1) in
+    let radius = pick-true _ _ h in
+    let rest = pick-true _ _ (radius .1) in
+    let travel = pick-true _ _ (rest .1) in
+    let slip = pick-true _ _ (travel .1) in
+    let stiffness = pick-true _ _ (slip .1) in
+    let compression = pick-true _ _ (stiffness .1) in
+    let relaxation = pick-true _ _ (compression .1) in
+    let side = pick-true _ _ (relaxation .1) in
+    let most = pick-true _ _ (side .1) in
     record {
-      radius = size .0;
-      rest = length .0;
-      travel = length .1;
-      stiffness = spring .0;
-      compression = damping .0;
-      relaxation = last .0;
-      most = last .1;
-      slip = tyre .0;
-      side = tyre .1;
+      radius = radius .0;
+      rest = rest .0;
+      travel = travel .0;
+      slip = slip .0;
+      stiffness = stiffness .0;
+      compression = compression .0;
+      relaxation = relaxation .0;
+      side = side .0;
+      most = most .0;
     }
 
 pub record ControlsRange (f : Format) (c : Controls) : Type 0 where
   pub brake : le zero (c .brake) ≡ true
-  pub steering : Between BAND-LOW BAND-HIGH (squaresOf f (c .steering))
+  pub steering : Between BAND-LOW BAND-HIGH (sumOfSquares f (c .steering))
 
 pub controls-say : (f : Format) (c : Controls) → controlsInRange f c ≡ true → ControlsRange f c
 unfolding controlsInRange notNegative
@@ -137,7 +139,7 @@ controls-say f c h =
 
 pub record ChassisRange (f : Format) (c : Chassis) : Type 0 where
   pub invmass : Between LEAST-INVMASS (power 20) (c .body .invmass)
-  pub rotation : Between BAND-LOW BAND-HIGH (squaresOf f (c .pose .rotation))
+  pub rotation : Between BAND-LOW BAND-HIGH (sumOfSquares f (c .pose .rotation))
 
 pub chassis-says : (f : Format) (c : Chassis) → chassisInRange f c ≡ true → ChassisRange f c
 unfolding chassisInRange
@@ -184,6 +186,6 @@ answer-says bodies Nothing h = omega arith
 answer-says bodies (Hit time normal named) h = hit-says bodies time named h .listed
 answer-says bodies (HitUp time normal upward named) h = hit-says bodies time named h .listed
 
-pub answers-say : (bodies : ℕ) (answers : List RayAnswer) (n i : ℕ) → answersOk bodies answers n ≡ true → i < n → namedOf (getD answers i Nothing) ≤ bodies
-unfolding answersOk answerOkAt
-answers-say bodies answers n i h l = answer-says bodies (getD answers i Nothing) (up-to (answerOkAt bodies answers) n i h l)
+pub answers-say : (bodies : ℕ) (answer : ℕ → RayAnswer) (n i : ℕ) → answersOk bodies answer n ≡ true → i < n → namedOf (answer i) ≤ bodies
+unfolding answersOk
+answers-say bodies answer n i h l = answer-says bodies (answer i) (up-to (λ j. answerOk bodies (answer j)) n i h l)

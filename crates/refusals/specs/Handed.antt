@@ -1,11 +1,10 @@
 -- Document 01, refusals 2 and 6: the numbers that a call is handed, and the ray answers of a drive. Definitions only.
 use Prim.Native.Nat.{ℕ}
-use mathlib.Core.Bool.{Bool, true, false}
-use mathlib.Core.List.{List, [], _∷_, _++_}
+use mathlib.Core.Bool.{Bool, true}
+use mathlib.Core.List.{[], _∷_, _++_}
 use lib.Dec.{leb}
 use lib.Ieee.{Float}
-use lib.ListN.{getD}
-use Rattle.lists.specs.Pick.{pick}
+use Rattle.lists.specs.Pick.{_and_}
 use Rattle.lists.specs.Counted.{every}
 use Rattle.vector.specs.declared.Vector.{Vector}
 use Rattle.body.specs.declared.Chassis.{Chassis}
@@ -39,26 +38,20 @@ vectorHanded v = allWithin HANDED (vectorList v)
 unfoldable pub normalsHanded : RayAnswer → Bool
 normalsHanded Nothing = true
 normalsHanded (Hit time normal named) = vectorHanded normal
-normalsHanded (HitUp time normal upward named) = pick (vectorHanded normal) (vectorHanded upward) false
+normalsHanded (HitUp time normal upward named) = vectorHanded normal and vectorHanded upward
 
 -- ---- refusal 6: a time is no NaN and from 0 to 1, and a named body is in the list of `bodies` bodies
 unfoldable pub hitOk : ℕ → Float → ℕ → Bool
-hitOk bodies time named = pick (inUnit time) (leb named bodies) false
+hitOk bodies time named = inUnit time and leb named bodies
 
 unfoldable pub answerOk : ℕ → RayAnswer → Bool
 answerOk bodies Nothing = true
 answerOk bodies (Hit time normal named) = hitOk bodies time named
 answerOk bodies (HitUp time normal upward named) = hitOk bodies time named
 
--- ---- each of the first n answers
-unfoldable pub answerOkAt : ℕ → List RayAnswer → ℕ → Bool
-answerOkAt bodies answers i = answerOk bodies (getD answers i Nothing)
+-- ---- each of the first n answers, `answer i` being that of wheel i
+unfoldable pub answersOk : ℕ → (ℕ → RayAnswer) → ℕ → Bool
+answersOk bodies answer n = every (λ i. answerOk bodies (answer i)) n 0
 
-unfoldable pub answersOk : ℕ → List RayAnswer → ℕ → Bool
-answersOk bodies answers n = every (answerOkAt bodies answers) n 0
-
-unfoldable pub normalsHandedAt : List RayAnswer → ℕ → Bool
-normalsHandedAt answers i = normalsHanded (getD answers i Nothing)
-
-unfoldable pub allNormalsHanded : List RayAnswer → ℕ → Bool
-allNormalsHanded answers n = every (normalsHandedAt answers) n 0
+unfoldable pub allNormalsHanded : (ℕ → RayAnswer) → ℕ → Bool
+allNormalsHanded answer n = every (λ i. normalsHanded (answer i)) n 0

@@ -1,22 +1,22 @@
 -- Document 01, refusal 10: the ranges of settings. Definitions only.
 use Prim.Native.Nat.{ℕ}
 use mathlib.Core.Bool.{Bool, false}
-use mathlib.Core.List.{List}
-use lib.IntN.{pos, negsuc}
+use mathlib.Core.List.{List, [], _∷_}
+use lib.IntN.{negsuc}
 use lib.Ieee.{Float, Format, fin, add, mul, lt, le}
-use Rattle.lists.specs.Pick.{pick}
+use Rattle.lists.specs.Pick.{_and_}
+use Rattle.lists.specs.All.{all}
 use Rattle.lists.specs.Counted.{every}
 use Rattle.real.specs.Number.{zero, one, power}
 use Rattle.vector.specs.declared.Rotation.{Rotation}
 use Rattle.body.specs.declared.Chassis.{Chassis}
 use Rattle.wheel.specs.declared.Settings.{Settings}
 use Rattle.wheel.specs.declared.Controls.{Controls}
-use Rattle.wheel.specs.declared.Wheel.{Wheel}
 use Rattle.table.specs.Rows.{wheelAt, bodyAt}
 
 -- x from `low` to `high`, both accepted; a NaN is in no range
 unfoldable pub inRange : Float → Float → Float → Bool
-inRange low high x = pick (le low x) (le x high) false
+inRange low high x = le low x and le x high
 
 -- dt from 0 to 1; a hit's time has the same range (refusal 6)
 unfoldable pub inUnit : Float → Bool
@@ -27,21 +27,14 @@ unfoldable pub notNegative : Float → Bool
 notNegative x = le zero x
 
 -- radius above 0; rest length, travel, slip, stiffness, dampings, side stiffness and maximum force at least 0
-unfoldable pub springInRange : Settings → Bool
-springInRange s = pick (notNegative (s .stiffness)) (pick (notNegative (s .compression)) (pick (notNegative (s .relaxation)) (notNegative (s .most)) false) false) false
-
-unfoldable pub sizesInRange : Settings → Bool
-sizesInRange s = pick (lt zero (s .radius)) (pick (notNegative (s .rest)) (notNegative (s .travel)) false) false
-
-unfoldable pub tyreInRange : Settings → Bool
-tyreInRange s = pick (notNegative (s .slip)) (notNegative (s .side)) false
-
 unfoldable pub settingsInRange : Settings → Bool
-settingsInRange s = pick (sizesInRange s) (pick (springInRange s) (tyreInRange s) false) false
+settingsInRange s =
+    lt zero (s .radius)
+    and all notNegative (s .rest ∷ s .travel ∷ s .slip ∷ s .stiffness ∷ s .compression ∷ s .relaxation ∷ s .side ∷ s .most ∷ [])
 
 -- a rotation's sum of squares, x, y, z, w in order, from 1 − 2^-10 to 1 + 2^-10
-unfoldable pub squaresOf : Format → Rotation → Float
-squaresOf f q = add f (add f (add f (mul f (q .b .x) (q .b .x)) (mul f (q .b .y) (q .b .y))) (mul f (q .b .z) (q .b .z))) (mul f (q .w) (q .w))
+unfoldable pub sumOfSquares : Format → Rotation → Float
+sumOfSquares f q = add f (add f (add f (mul f (q .b .x) (q .b .x)) (mul f (q .b .y) (q .b .y))) (mul f (q .b .z) (q .b .z))) (mul f (q .w) (q .w))
 
 abbrev pub BAND-LOW : Float
 BAND-LOW = fin false 1023 (negsuc 9)
@@ -50,18 +43,18 @@ abbrev pub BAND-HIGH : Float
 BAND-HIGH = fin false 1025 (negsuc 9)
 
 unfoldable pub rotationInRange : Format → Rotation → Bool
-rotationInRange f q = inRange BAND-LOW BAND-HIGH (squaresOf f q)
+rotationInRange f q = inRange BAND-LOW BAND-HIGH (sumOfSquares f q)
 
 -- brake at least 0, and the steering's rotation
 unfoldable pub controlsInRange : Format → Controls → Bool
-controlsInRange f c = pick (notNegative (c .brake)) (rotationInRange f (c .steering)) false
+controlsInRange f c = notNegative (c .brake) and rotationInRange f (c .steering)
 
 -- chassis inverse mass from 2^-20 to 2^20, and its rotation
 abbrev pub LEAST-INVMASS : Float
 LEAST-INVMASS = fin false 1 (negsuc 19)
 
 unfoldable pub chassisInRange : Format → Chassis → Bool
-chassisInRange f c = pick (inRange LEAST-INVMASS (power 20) (c .body .invmass)) (rotationInRange f (c .pose .rotation)) false
+chassisInRange f c = inRange LEAST-INVMASS (power 20) (c .body .invmass) and rotationInRange f (c .pose .rotation)
 
 -- a ground body's inverse mass at least 0, for each of the first n of a lent list
 unfoldable pub bodyInRange : List Float → ℕ → Bool
@@ -72,7 +65,7 @@ bodiesInRange bodies n = every (bodyInRange bodies) n 0
 
 -- every stored setting of the first n rows
 unfoldable pub wheelInRange : Format → List Float → ℕ → Bool
-wheelInRange f t i = pick (settingsInRange (wheelAt t i .settings)) (controlsInRange f (wheelAt t i .controls)) false
+wheelInRange f t i = settingsInRange (wheelAt t i .settings) and controlsInRange f (wheelAt t i .controls)
 
 unfoldable pub storedInRange : Format → List Float → ℕ → Bool
 storedInRange f t n = every (wheelInRange f t) n 0

@@ -8,9 +8,10 @@ use wheel::Controls;
 use wheel::RayAnswer;
 use wheel::Settings;
 ghost use mathlib.Core.Path.{_≡_};
-ghost use Prim.Native.Nat.{_<_, _≤_};
+ghost use Prim.Native.Nat.{_≤_};
+ghost use Rattle.wheel.specs.Ray.{answerAt};
 ghost use Rattle.table.specs.Layout as at;
-ghost use Rattle.refusals.specs.Handed.{settingsHanded, controlsHanded, chassisHanded, vectorHanded, normalsHanded, hitOk, answerOk, answerOkAt, answersOk, normalsHandedAt, allNormalsHanded};
+ghost use Rattle.refusals.specs.Handed.{settingsHanded, controlsHanded, chassisHanded, vectorHanded, normalsHanded, hitOk, answerOk, answersOk, allNormalsHanded};
 
 pub fn are_settings_handed(s: Settings) -> bool
     ensures { λ r. ⌜ r ≡ settingsHanded s ⌝ }
@@ -66,7 +67,7 @@ fn is_vector_handed(v: Vector) -> bool
 }
 
 // Refusal 2, of an answer's normals.
-pub fn are_normals_handed(answer: RayAnswer) -> bool
+fn are_normals_handed(answer: RayAnswer) -> bool
     ensures { λ r. ⌜ r ≡ normalsHanded answer ⌝ }
 {
     match answer {
@@ -82,7 +83,7 @@ pub fn are_normals_handed(answer: RayAnswer) -> bool
 }
 
 // Refusal 6, of one answer, with so many bodies in the list.
-pub fn is_answer_ok(bodies: u32, answer: RayAnswer) -> bool
+fn is_answer_ok(bodies: u32, answer: RayAnswer) -> bool
     ensures { λ r. ⌜ r ≡ answerOk bodies answer ⌝ }
 {
     match answer {
@@ -104,7 +105,7 @@ fn is_hit_ok(bodies: u32, time: f32, named: u32) -> bool
 // Refusal 6, of each of the first n answers.
 pub fn are_answers_ok(bodies: u32, answers: [RayAnswer; 16], n: usize) -> bool
     requires { ⌜ n ≤ at.WHEELS ⌝ }
-    ensures { λ r. ⌜ r ≡ answersOk bodies answers n ⌝ }
+    ensures { λ r. ⌜ r ≡ answersOk bodies (answerAt answers) n ⌝ }
 {
     let mut i = 0usize;
     while i < n {
@@ -121,7 +122,7 @@ pub fn are_answers_ok(bodies: u32, answers: [RayAnswer; 16], n: usize) -> bool
 // Refusal 2, of the normals of each of the first n answers.
 pub fn are_all_normals_handed(answers: [RayAnswer; 16], n: usize) -> bool
     requires { ⌜ n ≤ at.WHEELS ⌝ }
-    ensures { λ r. ⌜ r ≡ allNormalsHanded answers n ⌝ }
+    ensures { λ r. ⌜ r ≡ allNormalsHanded (answerAt answers) n ⌝ }
 {
     let mut i = 0usize;
     while i < n {

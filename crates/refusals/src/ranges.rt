@@ -8,7 +8,8 @@ ghost use Prim.Native.Nat.{_*_, _<_, _≤_};
 ghost use lib.ListN.{length};
 ghost use lib.Ieee.{binary32};
 ghost use Rattle.table.specs.Layout as at;
-ghost use Rattle.refusals.specs.Ranges.{inRange, inUnit, notNegative, springInRange, sizesInRange, tyreInRange, settingsInRange, squaresOf, rotationInRange, controlsInRange, chassisInRange, bodyInRange, bodiesInRange, wheelInRange, storedInRange};
+ghost use Rattle.lists.specs.All.{all};
+ghost use Rattle.refusals.specs.Ranges.{inRange, inUnit, notNegative, settingsInRange, sumOfSquares, rotationInRange, controlsInRange, chassisInRange, bodiesInRange, wheelInRange, storedInRange};
 
 // 1 - 2^-10 and 1 + 2^-10, of a rotation's sum of squares.
 const BAND_LOW: f32 = 0.9990234375;
@@ -20,7 +21,7 @@ const LEAST_INVMASS: f32 = 0.00000095367431640625;
 
 const MOST_INVMASS: f32 = 1048576.0;
 
-pub fn is_in_range(low: f32, high: f32, x: f32) -> bool
+fn is_in_range(low: f32, high: f32, x: f32) -> bool
     ensures { λ r. ⌜ r ≡ inRange low high x ⌝ }
 {
     if low <= x { x <= high } else { false }
@@ -33,70 +34,55 @@ pub fn is_in_unit(x: f32) -> bool
     is_in_range(0.0, 1.0, x)
 }
 
-pub fn is_not_negative(x: f32) -> bool
+fn is_not_negative(x: f32) -> bool
     ensures { λ r. ⌜ r ≡ notNegative x ⌝ }
 {
     0.0 <= x
 }
 
-fn is_spring_in_range(s: Settings) -> bool
-    ensures { λ r. ⌜ r ≡ springInRange s ⌝ }
+// Whether each number of s is at least 0.
+fn are_not_negative(s: &[f32]) -> bool
+    ensures { λ r. ⌜ r ≡ all notNegative (now (s .entry)) ⌝ }
 {
-    if !is_not_negative(s.stiffness) {
-        return false;
+    let mut ok = true;
+    let mut i = 0usize;
+    while i < s.len() {
+        let x = s[i];
+        ok = ok & is_not_negative(x);
+        i += 1usize;
     }
-    if !is_not_negative(s.compression) {
-        return false;
-    }
-    if !is_not_negative(s.relaxation) {
-        return false;
-    }
-    is_not_negative(s.most)
-}
-
-fn are_sizes_in_range(s: Settings) -> bool
-    ensures { λ r. ⌜ r ≡ sizesInRange s ⌝ }
-{
-    if 0.0 < s.radius {
-        if !is_not_negative(s.rest) {
-            return false;
-        }
-        is_not_negative(s.travel)
-    } else {
-        false
-    }
-}
-
-fn is_tyre_in_range(s: Settings) -> bool
-    ensures { λ r. ⌜ r ≡ tyreInRange s ⌝ }
-{
-    if !is_not_negative(s.slip) {
-        return false;
-    }
-    is_not_negative(s.side)
+    ok
 }
 
 pub fn are_settings_in_range(s: Settings) -> bool
     ensures { λ r. ⌜ r ≡ settingsInRange s ⌝ }
 {
-    if !are_sizes_in_range(s) {
-        return false;
+    if 0.0 < s.radius {
+        let numbers = [
+            s.rest,
+            s.travel,
+            s.slip,
+            s.stiffness,
+            s.compression,
+            s.relaxation,
+            s.side,
+            s.most,
+        ];
+        are_not_negative(&numbers)
+    } else {
+        false
     }
-    if !is_spring_in_range(s) {
-        return false;
-    }
-    is_tyre_in_range(s)
 }
 
 // The sum of squares, x, y, z, w in order.
 fn sum_of_squares(q: Rotation) -> f32
-    ensures { λ r. ⌜ r ≡ squaresOf binary32 q ⌝ }
+    ensures { λ r. ⌜ r ≡ sumOfSquares binary32 q ⌝ }
 {
     let b = q.b;
     ((b.x * b.x + b.y * b.y) + b.z * b.z) + q.w * q.w
 }
 
-pub fn is_rotation_in_range(q: Rotation) -> bool
+fn is_rotation_in_range(q: Rotation) -> bool
     ensures { λ r. ⌜ r ≡ rotationInRange binary32 q ⌝ }
 {
     is_in_range(BAND_LOW, BAND_HIGH, sum_of_squares(q))
@@ -139,7 +125,7 @@ pub fn are_bodies_in_range(bodies: &[f32], n: usize) -> bool
 }
 
 // Whether each stored setting of wheel i is in its range.
-pub fn is_wheel_in_range(table: &[f32], i: usize) -> bool
+fn is_wheel_in_range(table: &[f32], i: usize) -> bool
     requires { ⌜ (length (now table) ≡ at.SIZE) × (i < at.WHEELS) ⌝ }
     ensures { λ r. ⌜ r ≡ wheelInRange binary32 (now (table .entry)) i ⌝ }
 {

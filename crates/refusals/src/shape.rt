@@ -1,12 +1,5 @@
 // Refusal 1: the lent table and the whole numbers beside it.
-use table::layout::COUNT;
-use table::layout::DRIVEN;
-use table::layout::FORWARD;
-use table::layout::MARK;
-use table::layout::SIZE;
-use table::layout::UP;
-use table::layout::WHEELS;
-use table::layout::WHOLE;
+use table::layout::*;
 ghost use mathlib.Core.Path.{_≡_};
 ghost use Rattle.refusals.specs.Shape.{sizesOk, axesOk, statusOk, shapeOk};
 
@@ -31,7 +24,7 @@ pub fn are_axes_ok(up: u32, forward: u32) -> bool
     forward <= 2
 }
 
-pub fn is_status_ok(count: u32, mark: u32) -> bool
+fn is_status_ok(count: u32, mark: u32) -> bool
     ensures { λ r. ⌜ r ≡ statusOk count mark ⌝ }
 {
     if count > MOST_COUNT {

@@ -1,23 +1,30 @@
 -- `refusals::handed::are_all_normals_handed` meets its contract: the invariant is that the answers from i on decide. Assumes nothing.
-use Prim.Native.Nat.{_-_}
+use Prim.Native.Nat.{ℕ, _-_}
+use mathlib.Core.Bool.{Bool}
+use mathlib.Core.List.{List}
 use mathlib.Core.Path.{_≡_, _∙_, sym}
 use native.Mathlib.Omega.{arith}
 use borrow.Author.Needs.{needs}
 use Rattle.lists.specs.Counted.{every}
 use Rattle.lists.proofs.Turns.{every-start, every-yes, every-no, every-end}
-use Rattle.refusals.specs.Handed.{allNormalsHanded, normalsHandedAt}
+use Rattle.wheel.specs.declared.RayAnswer.{RayAnswer}
+use Rattle.wheel.specs.Ray.{answerAt}
+use Rattle.refusals.specs.Handed.{allNormalsHanded, normalsHanded}
 use Rattle.refusals.proofs.handed.are_all_normals_handed.Statement.{statement}
 use Rattle.refusals.proofs.handed.are_all_normals_handed.Tie as tie
 
+-- the test of answer i
+abbrev handedAt : List RayAnswer → ℕ → Bool
+handedAt answers i = normalsHanded (answerAt answers i)
+
 abbrev Inv-loop : tie.InvT-loop
-Inv-loop n answers i₀ i = allNormalsHanded answers n ≡ every (normalsHandedAt answers) (n - i) i
+Inv-loop n answers i₀ i = every (handedAt answers) n 0 ≡ every (handedAt answers) (n - i) i
 
 abbrev μ-loop : tie.MeasureT-loop
 μ-loop n answers i₀ i = n - i
 
 loop-holds : tie.Need-loop-holds Inv-loop μ-loop
-unfolding allNormalsHanded
-loop-holds c = every-start (normalsHandedAt (c .args .t1)) (c .args .n)
+loop-holds c = every-start (handedAt (c .args .t1)) (c .args .n)
 
 mul-a : tie.Need-mul-a Inv-loop μ-loop
 mul-a c = search needs
@@ -35,24 +42,24 @@ loop-less : tie.Need-loop-less Inv-loop μ-loop
 loop-less c = search needs
 
 loop-again : tie.Need-loop-again Inv-loop μ-loop
-unfolding normalsHandedAt
 loop-again c =
     let l = c .before .before .before .before in
     let a = l .before .args in
-    l .loop .inv ∙ every-yes (normalsHandedAt (a .t1)) (a .n) (l .loop .i) (omega arith) (sym (c .before .are-normals-handed .ensures) ∙ c .if1 .taken)
+    l .loop .inv ∙ every-yes (handedAt (a .t1)) (a .n) (l .loop .i) (omega arith) (sym (c .before .are-normals-handed .ensures) ∙ c .if1 .taken)
 
 returns : tie.Need-returns Inv-loop μ-loop
-unfolding normalsHandedAt
+unfolding allNormalsHanded
 returns c =
     let l = c .before .before .before .before in
     let a = l .before .args in
-    sym (l .loop .inv ∙ every-no (normalsHandedAt (a .t1)) (a .n) (l .loop .i) (omega arith) (sym (c .before .are-normals-handed .ensures) ∙ c .if1 .left))
+    sym (l .loop .inv ∙ every-no (handedAt (a .t1)) (a .n) (l .loop .i) (omega arith) (sym (c .before .are-normals-handed .ensures) ∙ c .if1 .left))
 
 returns-2 : tie.Need-returns-2 Inv-loop μ-loop
+unfolding allNormalsHanded
 returns-2 c =
     let l = c .before in
     let a = l .before .args in
-    sym (l .loop .inv ∙ every-end (normalsHandedAt (a .t1)) (a .n) (l .loop .i) (omega arith))
+    sym (l .loop .inv ∙ every-end (handedAt (a .t1)) (a .n) (l .loop .i) (omega arith))
 
 pub are-all-normals-handed-spec : {M : Type 1} → statement M
 are-all-normals-handed-spec =
