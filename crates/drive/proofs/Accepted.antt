@@ -17,8 +17,9 @@ use Rattle.wheel.specs.declared.RayAnswer.{RayAnswer}
 use Rattle.wheel.specs.Ray.{namedOf}
 use Rattle.table.specs.Layout as at
 use Rattle.table.specs.Bounds.{storedWithin}
-use Rattle.passes.specs.Frame.{Frame, answerAt}
-use Rattle.passes.specs.Passes.{demandsAdmitted}
+use Rattle.passes.specs.Frame.{Frame, Listed}
+use Rattle.passes.specs.Passes.{stored, demandsAdmitted}
+use Rattle.passes.specs.Step.{demandStep}
 use Rattle.refusals.specs.Shape.{countOf, markOf, upOf}
 use Rattle.refusals.specs.Ranges.{inUnit, storedInRange}
 use Rattle.refusals.specs.After.{after}
@@ -26,7 +27,7 @@ use Rattle.refusals.proofs.Says.{Shape, shape-says, answers-say}
 use Rattle.refusals.proofs.Settled.{settled-number}
 use Rattle.drive.specs.declared.Aimed.{Aimed}
 use Rattle.drive.specs.Aim.{chassisTests, placeTests, refuseAim, notAimed, aimedBy, aimOf}
-use Rattle.drive.specs.Drive.{frameTests, numberTests, rangeTests, earlyTests, stepTests, refuseDrive, demandStep}
+use Rattle.drive.specs.Drive.{frameTests, numberTests, rangeTests, earlyTests, stepTests, refuseUnder, refuseDrive}
 
 -- ---- aim
 pub record AimTested (f : Format) (t : List Float) (m : List ℕ) : Type 0 where
@@ -56,56 +57,52 @@ accepted-aim-says f t m c e h =
     aim-says f t m c (sym (settled-number (refuseAim f t m c) notAimed _ t m (λ r. r .number) refl refl) ∙ number)
 
 -- ---- no test of a drive refuses with 0
-pub frame-numbered : (t : List Float) (m : List ℕ) (bodies : List Float) (dynamic : List Bool) (answers : List RayAnswer) (n : ℕ) → all numbered (frameTests t m bodies dynamic answers n) ≡ true
+pub frame-numbered : (t : List Float) (m : List ℕ) (bodies : List Float) (dynamic : List Bool) (answer : ℕ → RayAnswer) (n : ℕ) → all numbered (frameTests t m bodies dynamic answer n) ≡ true
 unfolding frameTests all pick
-frame-numbered t m bodies dynamic answers n = refl
+frame-numbered t m bodies dynamic answer n = refl
 
-pub handed-numbered : (t : List Float) (m : List ℕ) (dt : Float) (bodies : List Float) (dynamic : List Bool) (answers : List RayAnswer) (n : ℕ)
-    → all numbered (frameTests t m bodies dynamic answers n ++ numberTests t dt bodies answers n) ≡ true
+pub handed-numbered : (t : List Float) (m : List ℕ) (dt : Float) (bodies : List Float) (dynamic : List Bool) (answer : ℕ → RayAnswer) (n : ℕ)
+    → all numbered (frameTests t m bodies dynamic answer n ++ numberTests t dt bodies answer n) ≡ true
 unfolding frameTests numberTests all pick
-handed-numbered t m dt bodies dynamic answers n = refl
+handed-numbered t m dt bodies dynamic answer n = refl
 
 pub early-numbered : (f : Format) (t : List Float) (m : List ℕ) (r : Frame) (n : ℕ) → all numbered (earlyTests f t m r n) ≡ true
 unfolding earlyTests frameTests numberTests rangeTests all pick
 early-numbered f t m r n = refl
 
 -- ---- drive
-pub record FrameTested (t : List Float) (m : List ℕ) (bodies : List Float) (dynamic : List Bool) (answers : List RayAnswer) (n : ℕ) : Type 0 where
+pub record FrameTested (t : List Float) (m : List ℕ) (bodies : List Float) (dynamic : List Bool) (answer : ℕ → RayAnswer) (n : ℕ) : Type 0 where
   pub shape : Shape t m
   pub aimed : markOf m ≡ at.AIMED
   pub each : n ≡ countOf m
-  pub room : length dynamic ≤ at.BODIES
-  pub sized : length bodies ≡ length dynamic * at.BODY
-  pub listed : (i : ℕ) → i < n → namedOf (answerAt answers i) ≤ length dynamic
+  pub lists : Listed bodies dynamic answer n
 
-pub frame-tests-say : (t : List Float) (m : List ℕ) (bodies : List Float) (dynamic : List Bool) (answers : List RayAnswer) (n : ℕ)
-    → firstFailed (frameTests t m bodies dynamic answers n) ≡ 0 → FrameTested t m bodies dynamic answers n
+pub frame-tests-say : (t : List Float) (m : List ℕ) (bodies : List Float) (dynamic : List Bool) (answer : ℕ → RayAnswer) (n : ℕ)
+    → firstFailed (frameTests t m bodies dynamic answer n) ≡ 0 → FrameTested t m bodies dynamic answer n
 unfolding frameTests firstFailed
-frame-tests-say t m bodies dynamic answers n h =
+frame-tests-say t m bodies dynamic answer n h =
     let shape = pick-zero _ _ _ h in
     let aimed = pick-zero _ _ _ (shape .1) in
     let each = pick-zero _ _ _ (aimed .1) in
     let room = pick-zero _ _ _ (each .1) in
     let sized = pick-zero _ _ _ (room .1) in
-    let listed = pick-zero _ _ _ (sized .1) in
+    let named = pick-zero _ _ _ (sized .1) in
     record {
       shape = shape-says t m (shape .0);
       aimed = eqb-true _ _ (aimed .0);
       each = eqb-true _ _ (each .0);
-      room = leb-true _ _ (room .0);
-      sized = eqb-true _ _ (sized .0);
-      listed = λ i l. answers-say (length dynamic) answers n i (listed .0) l;
+      lists = record { grounds = record { room = leb-true _ _ (room .0); sized = eqb-true _ _ (sized .0) }; named = λ i l. answers-say (length dynamic) answer n i (named .0) l };
     }
 
 pub record EarlyTested (f : Format) (t : List Float) (m : List ℕ) (r : Frame) (n : ℕ) : Type 0 where
-  pub frame : FrameTested t m (r .bodies) (r .dynamic) (r .answers) n
+  pub frame : FrameTested t m (r .bodies) (r .dynamic) (r .answer) n
   pub stored : storedWithin t n ≡ true
   pub unit : inUnit (r .dt) ≡ true
   pub ranges : storedInRange f t n ≡ true
 
-stored-of-numbers : (t : List Float) (dt : Float) (bodies : List Float) (answers : List RayAnswer) (n : ℕ) → firstFailed (numberTests t dt bodies answers n) ≡ 0 → storedWithin t n ≡ true
+stored-of-numbers : (t : List Float) (dt : Float) (bodies : List Float) (answer : ℕ → RayAnswer) (n : ℕ) → firstFailed (numberTests t dt bodies answer n) ≡ 0 → storedWithin t n ≡ true
 unfolding numberTests firstFailed
-stored-of-numbers t dt bodies answers n h =
+stored-of-numbers t dt bodies answer n h =
     let dt = pick-zero _ _ _ h in
     let handed = pick-zero _ _ _ (dt .1) in
     let normals = pick-zero _ _ _ (handed .1) in
@@ -124,20 +121,20 @@ unfolding earlyTests
 early-tests-say f t m r n h =
     let handed = passed-of-append _ _ h in
     let frame = passed-of-append _ _ handed in
-    let numbers = sym (append-passed _ _ (frame-numbered t m (r .bodies) (r .dynamic) (r .answers) n) frame) ∙ handed in
-    let ranges = ranges-say f t _ _ _ n (sym (append-passed _ _ (handed-numbered t m (r .dt) (r .bodies) (r .dynamic) (r .answers) n) handed) ∙ h) in
+    let numbers = sym (append-passed _ _ (frame-numbered t m (r .bodies) (r .dynamic) (r .answer) n) frame) ∙ handed in
+    let ranges = ranges-say f t _ _ _ n (sym (append-passed _ _ (handed-numbered t m (r .dt) (r .bodies) (r .dynamic) (r .answer) n) handed) ∙ h) in
     record { frame = frame-tests-say t m _ _ _ n frame; stored = stored-of-numbers t _ _ _ n numbers; unit = ranges .0; ranges = ranges .1 }
 
 pub record DriveTested (f : Format) (t : List Float) (m : List ℕ) (r : Frame) (n : ℕ) : Type 0 where
   pub early : EarlyTested f t m r n
-  pub demands : demandsAdmitted f (r .dt) (r .answers) n (demandStep f t r n .table) ≡ true
+  pub demands : demandsAdmitted f stored (r .dt) (r .answer) n (demandStep f stored r n t .table) ≡ true
 
-demands-of-step : (f : Format) (t : List Float) (up : ℕ) (r : Frame) (n : ℕ) → firstFailed (stepTests f t up r n) ≡ 0 → demandsAdmitted f (r .dt) (r .answers) n (demandStep f t r n .table) ≡ true
+demands-of-step : (f : Format) (t : List Float) (up : ℕ) (r : Frame) (n : ℕ) → firstFailed (stepTests f stored t up r n) ≡ 0 → demandsAdmitted f stored (r .dt) (r .answer) n (demandStep f stored r n t .table) ≡ true
 unfolding stepTests firstFailed
 demands-of-step f t up r n h = pick-zero _ _ _ h .0
 
 pub drive-says : (f : Format) (t : List Float) (m : List ℕ) (r : Frame) (n : ℕ) → refuseDrive f t m r n ≡ 0 → DriveTested f t m r n
-unfolding refuseDrive
+unfolding refuseDrive refuseUnder
 drive-says f t m r n h =
     let early = passed-of-append (earlyTests f t m r n) _ h in
     let step = sym (append-passed _ _ (early-numbered f t m r n) early) ∙ h in

@@ -4,33 +4,36 @@ use mathlib.Core.List.{List}
 use mathlib.Core.Path.{_≡_}
 use lib.Ieee.{Float, Format}
 use Rattle.vector.specs.declared.Vector.{Vector}
-use Rattle.vector.specs.Arithmetic.{rotateV, axisV}
+use Rattle.vector.specs.Arithmetic.{rotateV, ith}
 use Rattle.body.specs.declared.Chassis.{Chassis}
+use Rattle.wheel.specs.declared.Settings.{Settings}
+use Rattle.wheel.specs.declared.Directions.{Directions}
 use Rattle.wheel.specs.declared.RayAnswer.{RayAnswer}
 use Rattle.table.specs.Rows.{chassisAt, putChassis}
 use Rattle.passes.specs.Frame.{Frame, groundedWheels}
-use Rattle.passes.specs.Passes.{work, casts, suspensions, springs, demands, rescales, pushes, spins, sprung, demanded, pushedWork, storedWork}
-use Rattle.drive.specs.Drive.{demandStep}
+use Rattle.passes.specs.Passes.{casts, suspensions, springs, directionsIn, directionsAt, demands, rescales, pushes, spins}
+use Rattle.passes.specs.Step.{work, sprung, demanded, pushed, spun, demandStep}
 
 -- `cast`, `hung` and `last` are the table after a pass, `kept` and c the chassis before and after the springs
-pub demand-step-of-passes : (f : Format) (t cast hung last : List Float) (r : Frame) (n grounded : ℕ) (kept c : Chassis)
+pub demand-step-of-passes : (f : Format) (tune : Settings → Settings) (t cast hung last : List Float) (r : Frame) (n grounded : ℕ) (kept c : Chassis) (d : List Directions)
     → kept ≡ chassisAt t
-    → cast ≡ casts f (kept .body) (r .answers) n t
-    → hung ≡ suspensions f (kept .body .invmass) (r .answers) n cast
-    → c ≡ springs f (r .dt) n hung kept
-    → grounded ≡ groundedWheels (r .answers) n
-    → last ≡ demands f r (c .body) grounded n hung
-    → work last c ≡ demandStep f t r n
+    → cast ≡ casts f tune (kept .body) (r .answer) n t
+    → hung ≡ suspensions f tune (kept .body .invmass) (r .answer) n cast
+    → c ≡ springs f tune (r .dt) n hung kept
+    → d ≡ directionsIn f n hung
+    → grounded ≡ groundedWheels (r .answer) n
+    → last ≡ demands f tune r (c .body) grounded (directionsAt d) n hung
+    → work last c d ≡ demandStep f tune r n t
 unfolding demandStep demanded sprung
-demand-step-of-passes f t cast hung last r n grounded kept c k p q s g d = rw (← k, ← p, ← q, ← s, ← g, ← d)
+demand-step-of-passes f tune t cast hung last r n grounded kept c d k p q s x g e = rw (← k, ← p, ← q, ← s, ← x, ← g, ← e)
 
-pub finish-step-of-passes : (f : Format) (t scaled spun last : List Float) (dt : Float) (answers : List RayAnswer) (up n : ℕ) (c pushed : Chassis) (axis axis' : Vector)
+pub finish-step-of-passes : (f : Format) (tune : Settings → Settings) (t scaled spun-table last : List Float) (dt : Float) (answer : ℕ → RayAnswer) (up n : ℕ) (c moved : Chassis) (d : List Directions) (axis axis' : Vector)
     → scaled ≡ rescales f n t
-    → axis ≡ axisV up
+    → axis ≡ ith up
     → axis' ≡ rotateV f (c .pose .rotation) axis
-    → pushed ≡ pushes f axis' n scaled c
-    → spun ≡ spins f dt (pushed .body) answers n scaled
-    → last ≡ putChassis spun pushed
-    → work last pushed ≡ storedWork f dt answers n (pushedWork f up n (work t c))
-unfolding storedWork pushedWork
-finish-step-of-passes f t scaled spun last dt answers up n c pushed axis axis' s a b p q l = rw (← s, ← a, ← b, ← p, ← q, ← l)
+    → moved ≡ pushes f axis' (directionsAt d) n scaled c
+    → spun-table ≡ spins f tune dt (moved .body) answer n scaled
+    → last ≡ putChassis spun-table moved
+    → work last moved d ≡ spun f tune dt answer n (pushed f up n (work t c d))
+unfolding spun pushed
+finish-step-of-passes f tune t scaled spun-table last dt answer up n c moved d axis axis' s a b p q l = rw (← s, ← a, ← b, ← p, ← q, ← l)

@@ -3,19 +3,18 @@
 use Prim.Native.Nat.{ℕ}
 use mathlib.Core.Bool.{cond}
 use mathlib.Core.List.{List, [], _∷_, _++_}
-use lib.ListN.{set, replicate}
+use lib.ListN.{replicate}
 use lib.Ieee.{Float, Format, neg, lt}
-use Rattle.lists.specs.Counted.{iter}
 use Rattle.lists.specs.Refusal.{Test, _or_, firstFailed}
 use Rattle.real.specs.Number.{zero}
-use Rattle.vector.specs.Arithmetic.{zeroV, dotV, lengthV, rotateV, axisV}
+use Rattle.vector.specs.Arithmetic.{zeroV, dotV, lengthV, rotateV, ith}
 use Rattle.body.specs.declared.Chassis.{Chassis}
 use Rattle.wheel.specs.declared.Wheel.{Wheel}
 use Rattle.wheel.specs.Ray.{rayOf}
 use Rattle.table.specs.Layout as at
-use Rattle.table.specs.Rows.{wheelAt, putChassis}
+use Rattle.table.specs.Rows.{putChassis}
 use Rattle.table.specs.Bounds.{storedWithin}
-use Rattle.passes.specs.Passes.{transforms}
+use Rattle.passes.specs.Passes.{eachGives, transforms}
 use Rattle.refusals.specs.Shape.{countOf, forwardOf, shapeOk}
 use Rattle.refusals.specs.Ranges.{chassisInRange, storedInRange}
 use Rattle.refusals.specs.Handed.{chassisHanded}
@@ -26,7 +25,7 @@ use Rattle.drive.specs.declared.Aimed.{Aimed}
 -- Rule 2. Speed = length of the linear velocity, negated if the chassis-rotated forward axis dot velocity is below 0.
 unfoldable pub speedOf : Format → ℕ → Chassis → Float
 speedOf f forward c =
-    cond (lt (dotV f (rotateV f (c .pose .rotation) (axisV forward)) (c .body .linvel)) zero) (neg (lengthV f (c .body .linvel))) (lengthV f (c .body .linvel))
+    cond (lt (dotV f (rotateV f (c .pose .rotation) (ith forward)) (c .body .linvel)) zero) (neg (lengthV f (c .body .linvel))) (lengthV f (c .body .linvel))
 
 -- the table with the chassis kept and the first n wheels under its pose
 unfoldable pub aimedTable : Format → Chassis → ℕ → List Float → List Float
@@ -37,13 +36,10 @@ unfoldable pub noSight : Sight
 noSight = record { hard = zeroV; ray = zeroV }
 
 unfoldable pub sightOf : Format → Wheel → Sight
-sightOf f w = record { hard = w .info .hard; ray = rayOf f w }
-
-unfoldable pub sightAt : Format → List Float → ℕ → List Sight → List Sight
-sightAt f t i l = set l i (sightOf f (wheelAt t i))
+sightOf f w = record { hard = w .info .hard; ray = rayOf f (w .settings) w }
 
 unfoldable pub sightsOf : Format → ℕ → List Float → List Sight
-sightsOf f n t = iter (sightAt f t) n 0 (replicate at.WHEELS noSight)
+sightsOf f n t = eachGives (sightOf f) noSight n t
 
 -- ---- the refusals, in the order 1, 2, 10, 8
 unfoldable pub chassisTests : Format → List Float → List ℕ → Chassis → List Test

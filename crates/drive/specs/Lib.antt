@@ -1,2 +1,4 @@
 pub mod Aim
 pub mod Drive
+pub mod Results
+pub mod Tried

@@ -5,11 +5,7 @@ use body::Chassis;
 use refusals::handed;
 use refusals::ranges;
 use refusals::shape;
-use table::layout::AIMED;
-use table::layout::COUNT;
-use table::layout::FORWARD;
-use table::layout::MARK;
-use table::layout::SIZE;
+use table::layout::*;
 use wheel::Wheel;
 ghost use mathlib.Core.Path.{_≡_};
 ghost use Prim.Native.Nat.{_≤_};
@@ -21,7 +17,7 @@ ghost use Rattle.refusals.specs.After.{after};
 ghost use Rattle.drive.specs.Aim.{speedOf, aimedTable, noSight, sightOf, sightsOf, chassisTests, notAimed, aimOf};
 
 // Rule 2: the signed speed.
-fn signed_speed(c: Chassis, forward: u32) -> f32
+fn speed_of(forward: u32, c: Chassis) -> f32
     ensures { λ r. ⌜ r ≡ speedOf binary32 forward c ⌝ }
 {
     let p = c.pose;
@@ -44,26 +40,26 @@ fn no_sight() -> Sight
     }
 }
 
-fn sight(w: Wheel) -> Sight
+fn sight_of(w: Wheel) -> Sight
     ensures { λ r. ⌜ r ≡ sightOf binary32 w ⌝ }
 {
     let hard = w.info.hard;
     Sight {
         hard,
-        ray: wheel::ray::ray(w),
+        ray: wheel::ray::ray_of(w.settings, w),
     }
 }
 
 // The sights of the first n wheels.
-fn sights(table: &[f32], n: usize) -> [Sight; 16]
+fn sights_of(table: &[f32], n: usize) -> [Sight; WHEELS]
     requires { ⌜ (length (now table) ≡ at.SIZE) × (n ≤ at.WHEELS) ⌝ }
     ensures { λ r. ⌜ r ≡ sightsOf binary32 n (now (table .entry)) ⌝ }
 {
     let none = no_sight();
-    let mut all = [none; 16];
+    let mut all = [none; WHEELS];
     let mut i = 0usize;
     while i < n {
-        all[i] = sight(table::rows::get_wheel(table, i));
+        all[i] = sight_of(table::rows::get_wheel(table, i));
         i += 1usize;
     }
     all
@@ -73,7 +69,7 @@ fn not_aimed(number: u32) -> Aimed
     ensures { λ r. ⌜ r ≡ notAimed number ⌝ }
 {
     let none = no_sight();
-    let all = [none; 16];
+    let all = [none; WHEELS];
     Aimed {
         number,
         speed: 0.0,
@@ -137,7 +133,7 @@ pub fn aim(table: &mut [f32], whole: &mut [u32], c: Chassis) -> Aimed
     whole[MARK] = AIMED;
     Aimed {
         number: 0,
-        speed: signed_speed(c, forward),
-        sights: sights(&work, n),
+        speed: speed_of(forward, c),
+        sights: sights_of(&work, n),
     }
 }

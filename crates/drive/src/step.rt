@@ -1,18 +1,18 @@
 // The passes of a drive, one after another, on a table that is worked on: document 01, "A step, in the source's order".
 use super::Demanded;
 use body::Chassis;
+use table::layout::WHEELS;
 use wheel::Directions;
 use wheel::RayAnswer;
 ghost use mathlib.Core.Path.{_≡_};
-ghost use Prim.Native.Nat.{ℕ, _*_, _<_, _≤_};
+ghost use Prim.Native.Nat.{_≤_};
 ghost use lib.ListN.{length};
 ghost use lib.Ieee.{binary32};
 ghost use Rattle.table.specs.Layout as at;
-ghost use Rattle.wheel.specs.Ray.{namedOf};
-ghost use Rattle.passes.specs.Frame.{frame, answerAt};
-ghost use Rattle.passes.specs.Directed.{Directed};
-ghost use Rattle.passes.specs.Passes.{work, pushedWork, storedWork};
-ghost use Rattle.drive.specs.Drive.{demandStep};
+ghost use Rattle.wheel.specs.Ray.{answerAt};
+ghost use Rattle.passes.specs.Frame.{frame, Listed};
+ghost use Rattle.passes.specs.Passes.{stored};
+ghost use Rattle.passes.specs.Step.{work, pushed, spun, demandStep};
 
 // The step as far as the demands of all wheels: rules 3 to 7, and rule 8 before the rescale. Answers the chassis after the springs, and the
 // directions of the wheels, which the rest of the step uses too.
@@ -21,11 +21,11 @@ pub fn demand_step(
     dt: f32,
     bodies: &[f32],
     dynamic: &[bool],
-    answers: [RayAnswer; 16],
+    answers: [RayAnswer; WHEELS],
     n: usize,
 ) -> Demanded
-    requires { ⌜ (length (now table) ≡ at.SIZE) × (n ≤ at.WHEELS) × ((i : ℕ) → i < n → namedOf (answerAt answers i) ≤ length (now dynamic)) × (length (now dynamic) ≤ at.BODIES) × (length (now bodies) ≡ length (now dynamic) * at.BODY) ⌝ }
-    ensures { λ r. ⌜ (work (now (table .exit)) (r .chassis) ≡ demandStep binary32 (now (table .entry)) (frame dt (now (bodies .entry)) (now (dynamic .entry)) answers) n) × Directed binary32 n (r .directions) (now (table .exit)) ⌝ }
+    requires { ⌜ (length (now table) ≡ at.SIZE) × (n ≤ at.WHEELS) × Listed (now bodies) (now dynamic) (answerAt answers) n ⌝ }
+    ensures { λ r. ⌜ work (now (table .exit)) (r .chassis) (r .directions) ≡ demandStep binary32 stored (frame dt (now (bodies .entry)) (now (dynamic .entry)) (answerAt answers)) n (now (table .entry)) ⌝ }
 {
     let kept = table::rows::get_chassis(&table[..]);
     let b = kept.body;
@@ -33,7 +33,7 @@ pub fn demand_step(
     passes::rows::suspension_pass(table, n, b.invmass, answers);
     let c = passes::chassis::spring_pass(&table[..], n, kept, dt);
     let grounded = passes::frame::count_grounded(answers, n);
-    let directions = passes::chassis::directions(&table[..], n);
+    let directions = passes::chassis::directions_in(&table[..], n);
     passes::rows::friction_pass(
         table,
         n,
@@ -56,13 +56,13 @@ pub fn finish_step(
     table: &mut [f32],
     up: u32,
     dt: f32,
-    answers: [RayAnswer; 16],
+    answers: [RayAnswer; WHEELS],
     n: usize,
     c: Chassis,
-    directions: [Directions; 16],
+    directions: [Directions; WHEELS],
 ) -> Chassis
-    requires { ⌜ (length (now table) ≡ at.SIZE) × (n ≤ at.WHEELS) × Directed binary32 n directions (now table) ⌝ }
-    ensures { λ r. ⌜ work (now (table .exit)) r ≡ storedWork binary32 dt answers n (pushedWork binary32 up n (work (now (table .entry)) c)) ⌝ }
+    requires { ⌜ (length (now table) ≡ at.SIZE) × (n ≤ at.WHEELS) ⌝ }
+    ensures { λ r. ⌜ work (now (table .exit)) r directions ≡ spun binary32 stored dt (answerAt answers) n (pushed binary32 up n (work (now (table .entry)) c directions)) ⌝ }
 {
     slides::rescale_pass(table, n);
     let p = c.pose;

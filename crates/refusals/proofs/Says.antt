@@ -95,13 +95,13 @@ rotation-says f q h = range-says BAND-LOW BAND-HIGH (sumOfSquares f q) h
 pub record SettingsRange (s : Settings) : Type 0 where
   pub radius : lt zero (s .radius) ≡ true
   pub rest : le zero (s .rest) ≡ true
-  pub travel : le zero (s .travel) ≡ true
-  pub slip : le zero (s .slip) ≡ true
-  pub stiffness : le zero (s .stiffness) ≡ true
-  pub compression : le zero (s .compression) ≡ true
-  pub relaxation : le zero (s .relaxation) ≡ true
-  pub side : le zero (s .side) ≡ true
-  pub most : le zero (s .most) ≡ true
+  pub travel : le zero (s .tuning .travel) ≡ true
+  pub slip : le zero (s .tuning .slip) ≡ true
+  pub stiffness : le zero (s .tuning .stiffness) ≡ true
+  pub compression : le zero (s .tuning .compression) ≡ true
+  pub damping : le zero (s .tuning .damping) ≡ true
+  pub sideways : le zero (s .tuning .sideways) ≡ true
+  pub most : le zero (s .tuning .most) ≡ true
 
 pub settings-say : (s : Settings) → settingsInRange s ≡ true → SettingsRange s
 unfolding settingsInRange all notNegative
@@ -112,9 +112,9 @@ settings-say s h =
     let slip = pick-true _ _ (travel .1) in
     let stiffness = pick-true _ _ (slip .1) in
     let compression = pick-true _ _ (stiffness .1) in
-    let relaxation = pick-true _ _ (compression .1) in
-    let side = pick-true _ _ (relaxation .1) in
-    let most = pick-true _ _ (side .1) in
+    let damping = pick-true _ _ (compression .1) in
+    let sideways = pick-true _ _ (damping .1) in
+    let most = pick-true _ _ (sideways .1) in
     record {
       radius = radius .0;
       rest = rest .0;
@@ -122,8 +122,8 @@ settings-say s h =
       slip = slip .0;
       stiffness = stiffness .0;
       compression = compression .0;
-      relaxation = relaxation .0;
-      side = side .0;
+      damping = damping .0;
+      sideways = sideways .0;
       most = most .0;
     }
 

@@ -23,7 +23,7 @@ settingsHanded s =
     (vectorList (s .connection)
     ++ vectorList (s .direction)
     ++ vectorList (s .axle)
-    ++ (s .rest ∷ s .travel ∷ s .radius ∷ s .stiffness ∷ s .compression ∷ s .relaxation ∷ s .slip ∷ s .side ∷ s .most ∷ []))
+    ++ (s .rest ∷ s .tuning .travel ∷ s .radius ∷ s .tuning .stiffness ∷ s .tuning .compression ∷ s .tuning .damping ∷ s .tuning .slip ∷ s .tuning .sideways ∷ s .tuning .most ∷ []))
 
 unfoldable pub controlsHanded : Controls → Bool
 controlsHanded c = allWithin HANDED (rotationList (c .steering) ++ (c .engine ∷ c .brake ∷ []))

@@ -30,7 +30,7 @@ notNegative x = le zero x
 unfoldable pub settingsInRange : Settings → Bool
 settingsInRange s =
     lt zero (s .radius)
-    and all notNegative (s .rest ∷ s .travel ∷ s .slip ∷ s .stiffness ∷ s .compression ∷ s .relaxation ∷ s .side ∷ s .most ∷ [])
+    and all notNegative (s .rest ∷ s .tuning .travel ∷ s .tuning .slip ∷ s .tuning .stiffness ∷ s .tuning .compression ∷ s .tuning .damping ∷ s .tuning .sideways ∷ s .tuning .most ∷ [])
 
 -- a rotation's sum of squares, x, y, z, w in order, from 1 − 2^-10 to 1 + 2^-10
 unfoldable pub sumOfSquares : Format → Rotation → Float

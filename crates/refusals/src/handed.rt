@@ -30,14 +30,14 @@ pub fn are_settings_handed(s: Settings) -> bool
         a.y,
         a.z,
         s.rest,
-        s.travel,
+        s.tuning.travel,
         s.radius,
-        s.stiffness,
-        s.compression,
-        s.relaxation,
-        s.slip,
-        s.side,
-        s.most,
+        s.tuning.stiffness,
+        s.tuning.compression,
+        s.tuning.damping,
+        s.tuning.slip,
+        s.tuning.sideways,
+        s.tuning.most,
     ];
     table::bounds::all_within(HANDED, &numbers)
 }

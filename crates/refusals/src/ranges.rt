@@ -60,13 +60,13 @@ pub fn are_settings_in_range(s: Settings) -> bool
     if 0.0 < s.radius {
         let numbers = [
             s.rest,
-            s.travel,
-            s.slip,
-            s.stiffness,
-            s.compression,
-            s.relaxation,
-            s.side,
-            s.most,
+            s.tuning.travel,
+            s.tuning.slip,
+            s.tuning.stiffness,
+            s.tuning.compression,
+            s.tuning.damping,
+            s.tuning.sideways,
+            s.tuning.most,
         ];
         are_not_negative(&numbers)
     } else {

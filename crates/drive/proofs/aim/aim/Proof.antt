@@ -74,8 +74,8 @@ copy-requires-2 c κs = let s = shape (started (c .before .before .before .befor
 slice-write-whole : tie.Need-slice-write-whole
 slice-write-whole c = let s = shape (started (c .before .before .before .before .before .before .before .before .before)) in omega arith
 
-sights-requires : tie.Need-sights-requires
-sights-requires c κs = let s = shape (started (c .before .before .before .before .before .before .before .before .before .before .before)) in search needs
+sights-of-requires : tie.Need-sights-of-requires
+sights-of-requires c κs = let s = shape (started (c .before .before .before .before .before .before .before .before .before .before .before)) in search needs
 
 returns-3 : tie.Need-returns-3
 unfolding aimedBy
@@ -85,7 +85,7 @@ returns-3 c =
     let test = kept .before .before .before .before in
     let work = test .before .before .before in
     aim-done _ _ _ _ _ _ (passed (started work)) (placed work) (test .stored-within .ensures) _ _ (kept .before .before .before .if2 .left)
-    (rw (← speed .signed-speed .ensures, ← c .sights .ensures)) (kept .copy2 .ensures)
+    (rw (← speed .speed-of .ensures, ← c .sights-of .ensures)) (kept .copy2 .ensures)
 
 pub aim-spec : {M : Type 1} → statement M
 aim-spec =
@@ -114,7 +114,7 @@ aim-spec =
     slice-write-whole
     (λ c κs. tt)
     (λ c. search needs)
-    sights-requires
+    sights-of-requires
     (λ c. search needs)
     (λ c. search needs)
     returns-3)

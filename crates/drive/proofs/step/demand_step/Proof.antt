@@ -1,6 +1,5 @@
 -- `drive::step::demand_step` meets its contract: each pass takes what the one before it left. Assumes nothing.
 use mathlib.Core.Path.{_∙_}
-use Rattle.passes.proofs.Directed.{directed-demands}
 use Rattle.drive.proofs.Steps.{demand-step-of-passes}
 use Rattle.drive.proofs.step.demand_step.Statement.{statement}
 use Rattle.drive.proofs.step.demand_step.Tie as tie
@@ -15,28 +14,29 @@ spring-pass-requires c κs =
     let p = c .before .before .before .before .before .before .before .before .before .before .before .before .before .before .before .pre in
     (c .before .before .before .suspension-pass .kept .0 ∙ c .before .before .before .before .before .before .before .cast-pass .kept .0 ∙ p .0, p .1)
 
-directions-requires : tie.Need-directions-requires
-directions-requires c κs =
+directions-in-requires : tie.Need-directions-in-requires
+directions-in-requires c κs =
     let p = c .before .before .before .before .before .before .before .before .before .before .before .before .before .before .before .before .before .before .pre in
     (c .before .before .before .before .before .before .suspension-pass .kept .0 ∙ c .before .before .before .before .before .before .before .before .before .before .cast-pass .kept .0 ∙ p .0, p .1)
 
 friction-pass-requires : tie.Need-friction-pass-requires
 friction-pass-requires c κs =
     let p = c .before .before .before .before .before .before .before .before .before .before .before .before .before .before .before .before .before .before .before .before .pre in
-    (c .before .before .before .before .before .before .before .before .suspension-pass .kept .0 ∙ c .before .before .before .before .before .before .before .before .before .before .before .before .cast-pass .kept .0 ∙ p .0, p .1, c .before .directions .ensures, p .2, p .3, p .4)
+    (c .before .before .before .before .before .before .before .before .suspension-pass .kept .0 ∙ c .before .before .before .before .before .before .before .before .before .before .before .before .cast-pass .kept .0 ∙ p .0, p .1, p .2)
 
 same-length : tie.Need-same-length
 same-length c = c .before .before .friction-pass .kept .0 ∙ c .before .before .before .before .before .before .before .before .before .before .before .suspension-pass .kept .0 ∙ c .before .before .before .before .before .before .before .before .before .before .before .before .before .before .before .cast-pass .kept .0
 
 returns : tie.Need-returns
 returns c =
-    let spring = c .before .before .before .before .before .before .before in
-    let cast = c .before .before .before .before .before .before .before .before .before .before .before .before .before .before .before in
-    let p = c .before .before .before .before .before .before .before .before .before .before .before .before .before .before .before .before .before .before .before .before .before .before .before .pre in (
-      demand-step-of-passes _ _ _ _ _ _ _ _ _ _ (cast .before .before .before .get-chassis .ensures) (cast .cast-pass .ensures) (c .before .before .before .before .before .before .before .before .before .before .before .suspension-pass .ensures) (spring .spring-pass .ensures)
-          (c .before .before .before .before .before .before .count-grounded .ensures) (c .before .before .friction-pass .ensures),
-      directed-demands _ _ _ _ _ (c .before .before .before .before .before .before .before .before .before .before .before .suspension-pass .kept .0 ∙ cast .cast-pass .kept .0 ∙ p .0) (p .1) (c .before .before .before .before .directions .ensures) _ _ _ (c .before .before .friction-pass .ensures),
-    )
+    let friction = c .before .before in
+    let given = friction .before .before in
+    let counted = given .before .before in
+    let spring = counted .before in
+    let suspension = spring .before .before .before .before in
+    let cast = suspension .before .before .before .before in
+    demand-step-of-passes _ _ _ _ _ _ _ _ _ _ _ _ (cast .before .before .before .get-chassis .ensures) (cast .cast-pass .ensures) (suspension .suspension-pass .ensures) (spring .spring-pass .ensures)
+    (given .directions-in .ensures) (counted .count-grounded .ensures) (friction .friction-pass .ensures)
 
 pub demand-step-spec : {M : Type 1} → statement M
 demand-step-spec =
@@ -47,7 +47,7 @@ demand-step-spec =
     suspension-pass-requires
     spring-pass-requires
     (λ c κs. c .before .before .before .before .before .before .before .before .before .before .before .before .before .before .before .before .pre .1)
-    directions-requires
+    directions-in-requires
     friction-pass-requires
     same-length
     returns)

@@ -1,6 +1,5 @@
 -- `drive::step::finish_step` meets its contract: each pass takes what the one before it left. Assumes nothing.
 use mathlib.Core.Path.{_∙_}
-use Rattle.passes.proofs.Directed.{directed-rescales}
 use Rattle.drive.proofs.Steps.{finish-step-of-passes}
 use Rattle.drive.proofs.step.finish_step.Statement.{statement}
 use Rattle.drive.proofs.step.finish_step.Tie as tie
@@ -9,7 +8,7 @@ push-pass-requires : tie.Need-push-pass-requires
 push-pass-requires c κs =
     let p = c .before .before .before .before .before .before .before .before .before .pre in
     let scaled = c .before .before .before .before .before .before .rescale-pass in
-    (scaled .kept .0 ∙ p .0, p .1, directed-rescales _ _ _ _ _ (p .0) (p .1) (p .2) (scaled .ensures))
+    (scaled .kept .0 ∙ p .0, p .1)
 
 spin-pass-requires : tie.Need-spin-pass-requires
 spin-pass-requires c κs =
@@ -25,7 +24,7 @@ same-length c = c .before .before .put-chassis .kept .0 ∙ c .before .before .b
 returns : tie.Need-returns
 returns c =
     let push = c .before .before .before .before .before .before .before .before in
-    finish-step-of-passes _ _ _ _ _ _ _ _ _ _ _ _ _ (push .before .before .before .before .before .before .before .rescale-pass .ensures) (push .before .before .before .ith .ensures) (push .before .before .rotate .ensures)
+    finish-step-of-passes _ _ _ _ _ _ _ _ _ _ _ _ _ _ _ (push .before .before .before .before .before .before .before .rescale-pass .ensures) (push .before .before .before .ith .ensures) (push .before .before .rotate .ensures)
     (push .push-pass .ensures) (c .before .before .before .before .before .before .spin-pass .ensures) (c .before .before .put-chassis .ensures)
 
 pub finish-step-spec : {M : Type 1} → statement M

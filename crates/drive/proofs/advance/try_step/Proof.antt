@@ -1,14 +1,14 @@
--- `drive::drive::try_drive` meets its contract: the step, and each return as the definition chooses there. Assumes nothing.
+-- `drive::advance::try_step` meets its contract: the step, and each return as the definition chooses there. Assumes nothing.
 use mathlib.Core.Path.{sym, ap, _∙_}
 use lib.ListN.{length}
 use Rattle.drive.proofs.Tries.{tried-7, tried-8, tried-done}
-use Rattle.drive.proofs.drive.try_drive.Statement.{statement}
-use Rattle.drive.proofs.drive.try_drive.Tie as tie
+use Rattle.drive.proofs.advance.try_step.Statement.{statement}
+use Rattle.drive.proofs.advance.try_step.Tie as tie
 
 demand-step-requires : tie.Need-demand-step-requires
 demand-step-requires c κs =
     let p = c .before .before .before .before .before .before .pre in
-    (p .0, p .1, p .2, p .3, p .4)
+    (p .0, p .1, p .2)
 
 are-admitted-requires : tie.Need-are-admitted-requires
 are-admitted-requires c κs =
@@ -24,13 +24,13 @@ same-length c = c .before .before .before .copy .kept .0 ∙ c .before .before .
 returns : tie.Need-returns
 returns c =
     let ask = c .before .before .before .before .before .before .before in
-    tried-7 _ _ _ _ _ _ _ _ _ _ (ask .before .before .before .before .demand-step .ensures .0) (ask .are-admitted .ensures) (c .before .before .before .before .before .before .if1 .taken) (c .not-driven .ensures)
+    tried-7 _ _ _ _ _ _ _ _ _ _ _ _ (ask .before .before .before .before .demand-step .ensures) (ask .are-admitted .ensures) (c .before .before .before .before .before .before .if1 .taken) (c .not-driven .ensures)
     (c .before .before .before .copy .ensures ∙ c .before .before .before .before .before .before .before .before .before .before .before .before .before .copied .ensures)
 
 finish-step-requires : tie.Need-finish-step-requires
 finish-step-requires c κs =
     let p = c .before .before .before .before .before .before .before .before .before .before .before .before .before .before .before .pre in
-    (c .before .before .before .before .before .before .before .before .demand-step .kept .0 ∙ p .0, p .1, c .before .before .before .before .before .before .before .before .demand-step .ensures .1)
+    (c .before .before .before .before .before .before .before .before .demand-step .kept .0 ∙ p .0, p .1)
 
 stored-within-requires : tie.Need-stored-within-requires
 stored-within-requires c κs =
@@ -47,12 +47,12 @@ returns-2 : tie.Need-returns-2
 returns-2 c =
     let test = c .before .before .before .before .before .before .before in
     let ask = c .before .before .before .before .before .before .before .before .before .before .before .before .before .before .before .before in
-    tried-8 _ _ _ _ _ _ _ _ _ _ _ _ _ (ask .before .before .before .before .demand-step .ensures .0) (ask .are-admitted .ensures) (c .before .before .before .before .before .before .before .before .before .before .before .before .before .before .before .if1 .left)
+    tried-8 _ _ _ _ _ _ _ _ _ _ _ _ _ _ _ (ask .before .before .before .before .demand-step .ensures) (ask .are-admitted .ensures) (c .before .before .before .before .before .before .before .before .before .before .before .before .before .before .before .if1 .left)
     (test .before .before .before .before .finish-step .ensures) (test .stored-within .ensures) (c .before .before .before .before .before .before .if2 .taken) (c .not-driven2 .ensures)
     (c .before .before .before .copy2 .ensures ∙ c .before .before .before .before .before .before .before .before .before .before .before .before .before .before .before .before .before .before .before .before .before .before .copied .ensures)
 
-wakes-up-requires : tie.Need-wakes-up-requires
-wakes-up-requires c κs =
+wakes-requires : tie.Need-wakes-requires
+wakes-requires c κs =
     let p = c .before .before .before .before .before .before .before .before .before .before .before .before .before .before .before .before .before .before .before .before .before .before .pre in
     (ap length (c .before .before .before .before .before .before .before .before .before .before .before .before .before .before .before .before .before .copied .ensures) ∙ p .0, p .1)
 
@@ -63,12 +63,12 @@ returns-3 : tie.Need-returns-3
 returns-3 c =
     let test = c .before .before .before .before .before .before in
     let ask = c .before .before .before .before .before .before .before .before .before .before .before .before .before .before .before in
-    tried-done _ _ (c .before .before .before .before .before .before .before .before .before .before .before .before .before .before .before .before .before .before .before .before .before .before .before .before .before .before .args .table .now) _ _ _ _ _ _ _ _ _ _ _ (ask .before .before .before .before .demand-step .ensures .0) (ask .are-admitted .ensures) (c .before .before .before .before .before .before .before .before .before .before .before .before .before .before .if1 .left)
-    (test .before .before .before .before .finish-step .ensures) (test .stored-within .ensures) (c .before .before .before .before .before .if2 .left) (c .before .before .before .wakes-up .ensures)
+    tried-done _ _ _ (c .before .before .before .before .before .before .before .before .before .before .before .before .before .before .before .before .before .before .before .before .before .before .before .before .before .before .args .table .now) _ _ _ _ _ _ _ _ _ _ _ _ (ask .before .before .before .before .demand-step .ensures) (ask .are-admitted .ensures) (c .before .before .before .before .before .before .before .before .before .before .before .before .before .before .if1 .left)
+    (test .before .before .before .before .finish-step .ensures) (test .stored-within .ensures) (c .before .before .before .before .before .if2 .left) (c .before .before .before .wakes .ensures)
     (c .before .before .before .before .before .before .before .before .before .before .before .before .before .before .before .before .before .before .before .before .before .copied .ensures)
 
-pub try-drive-spec : {M : Type 1} → statement M
-try-drive-spec =
+pub try-step-spec : {M : Type 1} → statement M
+try-step-spec =
     tie.close
     (tie.spec
     (λ c κs. c .before .before .before .before .pre .0)
@@ -87,6 +87,6 @@ try-drive-spec =
     same-length-2
     returns-2
     (λ c. sym (ap length (c .before .before .before .before .before .before .before .before .before .before .before .before .before .before .before .before .before .copied .ensures) ∙ c .before .before .before .before .before .before .before .before .before .before .before .before .before .before .before .before .before .before .before .before .before .before .pre .0))
-    wakes-up-requires
+    wakes-requires
     same-length-3
     returns-3)

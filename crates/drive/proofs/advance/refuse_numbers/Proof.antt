@@ -1,10 +1,10 @@
--- `drive::drive::refuse_numbers` meets its contract: each return gives the choice that the definition makes there. Assumes nothing.
+-- `drive::advance::refuse_numbers` meets its contract: each return gives the choice that the definition makes there. Assumes nothing.
 use lib.Ieee.{ofBits}
 use Rattle.lists.specs.Refusal.{firstFailed}
 use Rattle.lists.proofs.Picks.{picks}
 use Rattle.drive.specs.Drive.{numberTests}
-use Rattle.drive.proofs.drive.refuse_numbers.Statement.{statement}
-use Rattle.drive.proofs.drive.refuse_numbers.Tie as tie
+use Rattle.drive.proofs.advance.refuse_numbers.Statement.{statement}
+use Rattle.drive.proofs.advance.refuse_numbers.Tie as tie
 
 returns : tie.Need-returns
 unfolding numberTests ofBits firstFailed

@@ -1,9 +1,9 @@
--- `drive::drive::refuse_ranges` meets its contract: each return gives the choice that the definition makes there. Assumes nothing.
+-- `drive::advance::refuse_ranges` meets its contract: each return gives the choice that the definition makes there. Assumes nothing.
 use Rattle.lists.specs.Refusal.{firstFailed}
 use Rattle.lists.proofs.Picks.{picks}
 use Rattle.drive.specs.Drive.{rangeTests}
-use Rattle.drive.proofs.drive.refuse_ranges.Statement.{statement}
-use Rattle.drive.proofs.drive.refuse_ranges.Tie as tie
+use Rattle.drive.proofs.advance.refuse_ranges.Statement.{statement}
+use Rattle.drive.proofs.advance.refuse_ranges.Tie as tie
 
 returns : tie.Need-returns
 unfolding rangeTests firstFailed

@@ -1,8 +1,8 @@
--- `drive::aim::signed_speed` meets its contract: the definition, replayed as the code runs. Assumes nothing.
+-- `drive::aim::speed_of` meets its contract: the definition, replayed as the code runs. Assumes nothing.
 use lib.Ieee.{ofBits}
 use Rattle.drive.specs.Aim.{speedOf}
-use Rattle.drive.proofs.aim.signed_speed.Statement.{statement}
-use Rattle.drive.proofs.aim.signed_speed.Tie as tie
+use Rattle.drive.proofs.aim.speed_of.Statement.{statement}
+use Rattle.drive.proofs.aim.speed_of.Tie as tie
 
 returns : tie.Need-returns
 unfolding speedOf ofBits
@@ -12,5 +12,5 @@ returns-2 : tie.Need-returns-2
 unfolding speedOf ofBits
 returns-2 c = rw (← c .before .before .before .before .length .ensures, ← c .before .before .before .ith .ensures, ← c .before .before .rotate .ensures, ← c .before .dot .ensures, c .if1 .left)
 
-pub signed-speed-spec : {M : Type 1} → statement M
-signed-speed-spec = tie.close (tie.spec (λ c κs. tt) (λ c κs. tt) (λ c κs. tt) (λ c κs. tt) returns returns-2)
+pub speed-of-spec : {M : Type 1} → statement M
+speed-of-spec = tie.close (tie.spec (λ c κs. tt) (λ c κs. tt) (λ c κs. tt) (λ c κs. tt) returns returns-2)

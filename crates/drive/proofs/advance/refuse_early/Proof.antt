@@ -1,11 +1,11 @@
--- `drive::drive::refuse_drive` meets its contract: one list of tests after another. Assumes nothing.
+-- `drive::advance::refuse_early` meets its contract: one list of tests after another. Assumes nothing.
 use native.Mathlib.Omega.{arith}
 use mathlib.Core.Path.{sym, _∙_}
 use Rattle.lists.proofs.Refusals.{append-refused-by, append-passed}
 use Rattle.drive.specs.Drive.{earlyTests}
 use Rattle.drive.proofs.Accepted.{frame-numbered, handed-numbered, frame-tests-say}
-use Rattle.drive.proofs.drive.refuse_drive.Statement.{statement}
-use Rattle.drive.proofs.drive.refuse_drive.Tie as tie
+use Rattle.drive.proofs.advance.refuse_early.Statement.{statement}
+use Rattle.drive.proofs.advance.refuse_early.Tie as tie
 
 returns : tie.Need-returns
 unfolding earlyTests
@@ -27,7 +27,7 @@ refuse-ranges-requires : tie.Need-refuse-ranges-requires
 refuse-ranges-requires c κs =
     let h = frame-tests-say _ _ _ _ _ _ (sym (c .before .before .before .refuse-frame .ensures) ∙ c .before .before .if1 .left) in
     let s = h .shape in
-    (s .sized, omega arith, h .room, h .sized)
+    (s .sized, omega arith, h .lists .grounds .room, h .lists .grounds .sized)
 
 returns-3 : tie.Need-returns-3
 unfolding earlyTests
@@ -36,5 +36,5 @@ returns-3 c =
     c .refuse-ranges .ensures
     ∙ sym (append-passed _ _ (handed-numbered _ _ _ _ _ _ _) (passed ∙ sym (c .before .before .refuse-numbers .ensures) ∙ c .before .if2 .left))
 
-pub refuse-drive-spec : {M : Type 1} → statement M
-refuse-drive-spec = tie.close (tie.spec (λ c κs. tt) returns refuse-numbers-requires returns-2 refuse-ranges-requires returns-3)
+pub refuse-early-spec : {M : Type 1} → statement M
+refuse-early-spec = tie.close (tie.spec (λ c κs. tt) returns refuse-numbers-requires returns-2 refuse-ranges-requires returns-3)

@@ -1,27 +1,23 @@
-// Drive.
+// Drive: the vehicle by one step.
 use super::Driven;
 use refusals::handed;
 use refusals::ranges;
 use refusals::shape;
 use table::bounds::HANDED;
-use table::layout::AIMED;
-use table::layout::BODIES;
-use table::layout::BODY;
-use table::layout::COUNT;
-use table::layout::DRIVEN;
-use table::layout::MARK;
-use table::layout::UP;
+use table::layout::*;
 use wheel::RayAnswer;
 ghost use mathlib.Core.Path.{_≡_};
-ghost use Prim.Native.Nat.{ℕ, _*_, _<_, _≤_};
+ghost use Prim.Native.Nat.{_*_, _≤_};
 ghost use lib.ListN.{length};
 ghost use lib.Ieee.{binary32};
 ghost use Rattle.lists.specs.Refusal.{firstFailed};
 ghost use Rattle.table.specs.Layout as at;
-ghost use Rattle.wheel.specs.Ray.{namedOf};
-ghost use Rattle.passes.specs.Frame.{frame, answerAt};
+ghost use Rattle.wheel.specs.Ray.{answerAt};
+ghost use Rattle.passes.specs.Frame.{frame, Listed};
+ghost use Rattle.passes.specs.Passes.{stored};
 ghost use Rattle.refusals.specs.After.{after};
-ghost use Rattle.drive.specs.Drive.{earlyTests, frameTests, numberTests, rangeTests, wakes, notDriven, tried, tryDrive, driveOf};
+ghost use Rattle.drive.specs.Drive.{earlyTests, frameTests, numberTests, rangeTests, wakes, notDriven, driveOf};
+ghost use Rattle.drive.specs.Tried.{tried, tryStep};
 
 // Refusals 1, 5 and 6.
 fn refuse_frame(
@@ -29,10 +25,10 @@ fn refuse_frame(
     whole: &[u32],
     bodies: &[f32],
     dynamic: &[bool],
-    answers: [RayAnswer; 16],
+    answers: [RayAnswer; WHEELS],
     n: usize,
 ) -> u32
-    ensures { λ r. ⌜ r ≡ firstFailed (frameTests (now (table .entry)) (now (whole .entry)) (now (bodies .entry)) (now (dynamic .entry)) answers n) ⌝ }
+    ensures { λ r. ⌜ r ≡ firstFailed (frameTests (now (table .entry)) (now (whole .entry)) (now (bodies .entry)) (now (dynamic .entry)) (answerAt answers) n) ⌝ }
 {
     if !shape::is_shape_ok(table, whole) {
         return 1;
@@ -57,9 +53,9 @@ fn refuse_frame(
 }
 
 // Refusal 2.
-fn refuse_numbers(table: &[f32], dt: f32, bodies: &[f32], answers: [RayAnswer; 16], n: usize) -> u32
+fn refuse_numbers(table: &[f32], dt: f32, bodies: &[f32], answers: [RayAnswer; WHEELS], n: usize) -> u32
     requires { ⌜ (length (now table) ≡ at.SIZE) × (n ≤ at.WHEELS) ⌝ }
-    ensures { λ r. ⌜ r ≡ firstFailed (numberTests (now (table .entry)) dt (now (bodies .entry)) answers n) ⌝ }
+    ensures { λ r. ⌜ r ≡ firstFailed (numberTests (now (table .entry)) dt (now (bodies .entry)) (answerAt answers) n) ⌝ }
 {
     if !real::is_within(HANDED, dt) {
         return 2;
@@ -97,16 +93,16 @@ fn refuse_ranges(table: &[f32], dt: f32, bodies: &[f32], count: usize, n: usize)
 }
 
 // Refusals 1, 5, 6, 2 and 10, in this order.
-fn refuse_drive(
+fn refuse_early(
     table: &[f32],
     whole: &[u32],
     dt: f32,
     bodies: &[f32],
     dynamic: &[bool],
-    answers: [RayAnswer; 16],
+    answers: [RayAnswer; WHEELS],
     n: usize,
 ) -> u32
-    ensures { λ r. ⌜ r ≡ firstFailed (earlyTests binary32 (now (table .entry)) (now (whole .entry)) (frame dt (now (bodies .entry)) (now (dynamic .entry)) answers) n) ⌝ }
+    ensures { λ r. ⌜ r ≡ firstFailed (earlyTests binary32 (now (table .entry)) (now (whole .entry)) (frame dt (now (bodies .entry)) (now (dynamic .entry)) (answerAt answers)) n) ⌝ }
 {
     let a = refuse_frame(table, whole, bodies, dynamic, answers, n);
     if a != 0 {
@@ -120,7 +116,7 @@ fn refuse_drive(
 }
 
 // Whether any engine force of the first n wheels is above 0.
-fn wakes_up(table: &[f32], n: usize) -> bool
+fn wakes(table: &[f32], n: usize) -> bool
     requires { ⌜ (length (now table) ≡ at.SIZE) × (n ≤ at.WHEELS) ⌝ }
     ensures { λ r. ⌜ r ≡ wakes (now (table .entry)) n ⌝ }
 {
@@ -148,17 +144,17 @@ fn not_driven(number: u32) -> Driven
 }
 
 // The step, on the table itself. A step that is refused, with 7 or 8, gives the table its numbers back.
-fn try_drive(
+fn try_step(
     table: &mut [f32],
     up: u32,
     dt: f32,
     bodies: &[f32],
     dynamic: &[bool],
-    answers: [RayAnswer; 16],
+    answers: [RayAnswer; WHEELS],
     n: usize,
 ) -> Driven
-    requires { ⌜ (length (now table) ≡ at.SIZE) × (n ≤ at.WHEELS) × ((i : ℕ) → i < n → namedOf (answerAt answers i) ≤ length (now dynamic)) × (length (now dynamic) ≤ at.BODIES) × (length (now bodies) ≡ length (now dynamic) * at.BODY) ⌝ }
-    ensures { λ r. ⌜ tried r (now (table .exit)) ≡ tryDrive binary32 (now (table .entry)) up (frame dt (now (bodies .entry)) (now (dynamic .entry)) answers) n ⌝ }
+    requires { ⌜ (length (now table) ≡ at.SIZE) × (n ≤ at.WHEELS) × Listed (now bodies) (now dynamic) (answerAt answers) n ⌝ }
+    ensures { λ r. ⌜ tried r (now (table .exit)) ≡ tryStep binary32 stored (now (table .entry)) up (frame dt (now (bodies .entry)) (now (dynamic .entry)) (answerAt answers)) n ⌝ }
 {
     let kept = table::rows::copied(&table[..]);
     let d = super::step::demand_step(table, dt, bodies, dynamic, answers, n);
@@ -173,7 +169,7 @@ fn try_drive(
         table::rows::copy(table, &kept);
         return not_driven(8);
     }
-    let wake = wakes_up(&kept, n);
+    let wake = wakes(&kept, n);
     let b = after.body;
     let linvel = b.linvel;
     let angvel = b.angvel;
@@ -201,17 +197,17 @@ pub fn drive(
     dt: f32,
     bodies: &[f32],
     dynamic: &[bool],
-    answers: [RayAnswer; 16],
+    answers: [RayAnswer; WHEELS],
     n: usize,
 ) -> Driven
-    ensures { λ r. ⌜ after r (now (table .exit)) (now (whole .exit)) ≡ driveOf binary32 (now (table .entry)) (now (whole .entry)) (frame dt (now (bodies .entry)) (now (dynamic .entry)) answers) n ⌝ }
+    ensures { λ r. ⌜ after r (now (table .exit)) (now (whole .exit)) ≡ driveOf binary32 (now (table .entry)) (now (whole .entry)) (frame dt (now (bodies .entry)) (now (dynamic .entry)) (answerAt answers)) n ⌝ }
 {
-    let number = refuse_drive(&table[..], &whole[..], dt, bodies, dynamic, answers, n);
+    let number = refuse_early(&table[..], &whole[..], dt, bodies, dynamic, answers, n);
     if number != 0 {
         return not_driven(number);
     }
     let up = whole[UP];
-    let r = try_drive(table, up, dt, bodies, dynamic, answers, n);
+    let r = try_step(table, up, dt, bodies, dynamic, answers, n);
     if r.number == 0 {
         whole[MARK] = DRIVEN;
     }

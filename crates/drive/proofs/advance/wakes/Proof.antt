@@ -1,4 +1,4 @@
--- `drive::drive::wakes_up` meets its contract: the invariant is that the wheels from i on decide. Assumes nothing.
+-- `drive::advance::wakes` meets its contract: the invariant is that the wheels from i on decide. Assumes nothing.
 use Prim.Native.Nat.{ℕ, _-_}
 use mathlib.Core.Bool.{true, false, not}
 use mathlib.Core.List.{List}
@@ -11,8 +11,8 @@ use Rattle.lists.proofs.Turns.{every-start, every-yes, every-no, every-end}
 use Rattle.wheel.specs.declared.Wheel.{Wheel}
 use Rattle.table.specs.Rows.{wheelAt}
 use Rattle.drive.specs.Drive.{idleAt, wakes}
-use Rattle.drive.proofs.drive.wakes_up.Statement.{statement}
-use Rattle.drive.proofs.drive.wakes_up.Tie as tie
+use Rattle.drive.proofs.advance.wakes.Statement.{statement}
+use Rattle.drive.proofs.advance.wakes.Tie as tie
 
 abbrev Inv-loop : tie.InvT-loop
 Inv-loop table n i₀ i = every (idleAt table) n 0 ≡ every (idleAt table) (n - i) i
@@ -50,5 +50,5 @@ returns-2 c =
     let l = c .before .loop in
     sym (ap not (l .inv ∙ every-end (idleAt (c .before .before .before .args .table .now)) (c .before .before .before .args .n) (l .i) (omega arith)))
 
-pub wakes-up-spec : {M : Type 1} → statement M
-wakes-up-spec = tie.close (tie.spec Inv-loop μ-loop loop-holds (λ c κs. search needs) returns (λ c. search needs) (λ c. search needs) loop-again returns-2)
+pub wakes-spec : {M : Type 1} → statement M
+wakes-spec = tie.close (tie.spec Inv-loop μ-loop loop-holds (λ c κs. search needs) returns (λ c. search needs) (λ c. search needs) loop-again returns-2)

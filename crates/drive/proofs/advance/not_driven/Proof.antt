@@ -1,7 +1,7 @@
--- `drive::drive::not_driven` meets its contract: the definition, replayed as the code runs. Assumes nothing.
+-- `drive::advance::not_driven` meets its contract: the definition, replayed as the code runs. Assumes nothing.
 use Rattle.drive.specs.Drive.{notDriven}
-use Rattle.drive.proofs.drive.not_driven.Statement.{statement}
-use Rattle.drive.proofs.drive.not_driven.Tie as tie
+use Rattle.drive.proofs.advance.not_driven.Statement.{statement}
+use Rattle.drive.proofs.advance.not_driven.Tie as tie
 
 returns : tie.Need-returns
 unfolding notDriven

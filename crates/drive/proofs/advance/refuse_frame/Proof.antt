@@ -1,12 +1,12 @@
--- `drive::drive::refuse_frame` meets its contract: each return gives the choice that the definition makes there. Assumes nothing.
+-- `drive::advance::refuse_frame` meets its contract: each return gives the choice that the definition makes there. Assumes nothing.
 use native.Mathlib.Omega.{arith}
 use borrow.Author.Needs.{needs}
 use Rattle.lists.specs.Refusal.{firstFailed}
 use Rattle.lists.proofs.Picks.{picks, told-yes}
 use Rattle.refusals.proofs.Says.{shape-says, place-in-shape}
 use Rattle.drive.specs.Drive.{frameTests}
-use Rattle.drive.proofs.drive.refuse_frame.Statement.{statement}
-use Rattle.drive.proofs.drive.refuse_frame.Tie as tie
+use Rattle.drive.proofs.advance.refuse_frame.Statement.{statement}
+use Rattle.drive.proofs.advance.refuse_frame.Tie as tie
 
 returns : tie.Need-returns
 unfolding frameTests firstFailed
