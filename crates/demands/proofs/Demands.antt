@@ -9,10 +9,10 @@ use lib.Ieee.{Float, Format, le}
 use Rattle.body.specs.declared.Chassis.{Chassis}
 use Rattle.wheel.specs.declared.Settings.{Settings}
 use Rattle.wheel.specs.declared.Controls.{Controls}
-use Rattle.wheel.specs.declared.Friction.{Friction}
-use Rattle.wheel.specs.Grip.{skidOf, rescaledBy}
-use Rattle.wheel.specs.Demand3.{precision, Grips, WithinBrake}
-use Rattle.wheel.proofs.Demand3.{not-sliding, sliding}
+use Rattle.tyre.specs.declared.Friction.{Friction}
+use Rattle.tyre.specs.Grip.{skidOf, rescaledBy}
+use Rattle.tyre.specs.Demand3.{precision, Grips, WithinBrake, leastLimit}
+use Rattle.tyre.proofs.Demand3.{not-sliding, sliding}
 use Rattle.table.specs.Layout as at
 use Rattle.passes.specs.Frame.{Frame}
 use Rattle.refusals.specs.Shape.{countOf, upOf, forwardOf}
@@ -27,10 +27,12 @@ use Rattle.vehicle.proofs.Accepted.{read-says}
 use Rattle.drive.specs.declared.Aimed.{Aimed}
 use Rattle.drive.specs.declared.Driven.{Driven}
 use Rattle.drive.specs.Aim.{aimOf, refuseAim, notAimed, aimedBy, aimedTable}
-use Rattle.drive.specs.Drive.{driveOf, refuseDrive, notDriven, drivenBy, wholeStep}
+use Rattle.passes.specs.Passes.{stored}
+use Rattle.passes.specs.Step.{wholeStep}
+use Rattle.drive.specs.Drive.{driveUnder, driveOf, refuseUnder, refuseDrive, notDriven, drivenBy}
 use Rattle.demands.specs.History.{State, Call, SetUp, ReadWheel, answered, accepted, runAll, drivenSince, countAfter, readAfter}
 use Rattle.demands.specs.Same.{Same}
-use Rattle.demands.specs.Impulses.{Step, Accepted, Stepped, Grounded, forwardDemand, sideDemand, gripLimit, forwardImpulse, sideImpulse, brakeOf, leastLimit, slidesAt, poweredAt, Alike}
+use Rattle.demands.specs.Impulses.{Step, Accepted, Stepped, Grounded, forwardDemand, sideDemand, gripLimit, forwardImpulse, sideImpulse, brakeOf, slidesAt, poweredAt, Alike}
 use Rattle.demands.proofs.Marks.{history-from-set-up}
 use Rattle.demands.proofs.Five.{five-of-not-driven, not-five-of-driven}
 use Rattle.demands.proofs.Numbers.{number-le-ten}
@@ -55,7 +57,7 @@ module _ (f : Format) (t : List Float) (m : List ℕ) where
   aim-number c = settled-number _ notAimed _ t m (λ r. r .number) refl refl
 
   pub drive-number : (r : Frame) (n : ℕ) → driveOf f t m r n .reply .number ≡ refuseDrive f t m r n
-  unfolding driveOf notDriven drivenBy
+  unfolding driveOf driveUnder refuseDrive notDriven drivenBy
   drive-number r n = settled-number _ notDriven _ t m (λ x. x .number) refl refl
 
   pub read-number : (i : ℕ) → readWheel t m i .reply .number ≡ refuseRead t m i
@@ -83,7 +85,7 @@ module _ (f : Format) (t : List Float) (m : List ℕ) where
   aim-refused c h = refusal-changes-nothing _ notAimed _ h
 
   pub drive-refused : (r : Frame) (n : ℕ) → (refuseDrive f t m r n ≡ 0 → ⊥) → driveOf f t m r n ≡ after (notDriven (refuseDrive f t m r n)) t m
-  unfolding driveOf
+  unfolding driveOf driveUnder refuseDrive
   drive-refused r n h = refusal-changes-nothing _ notDriven _ h
 
   pub read-refused : (i : ℕ) → (refuseRead t m i ≡ 0 → ⊥) → readWheel t m i ≡ after (notRead (refuseRead t m i)) t m
@@ -149,8 +151,8 @@ module _ (f : Format) (t : List Float) (m : List ℕ) {t₁ t₂ : List Float} {
 -- those of document 01's rules 3 to 10, worked out on the kept chassis; those of an accepted aim are rules 1 and 2.
 module _ (f : Format) (t : List Float) (m : List ℕ) where
   pub accepted-drive : (r : Frame) (n : ℕ) → refuseDrive f t m r n ≡ 0
-      → driveOf f t m r n ≡ after (drivenBy t n (wholeStep f t (upOf m) r n)) (wholeStep f t (upOf m) r n .table) (marked m at.DRIVEN)
-  unfolding driveOf
+      → driveOf f t m r n ≡ after (drivenBy t n (wholeStep f stored (upOf m) r n t)) (wholeStep f stored (upOf m) r n t .table) (marked m at.DRIVEN)
+  unfolding driveOf driveUnder refuseDrive
   accepted-drive r n h = sym (settled-done _ _ notDriven _ _ t m refl h refl)
 
   pub accepted-aim : (c : Chassis) → refuseAim f t m c ≡ 0

@@ -18,32 +18,39 @@ use Rattle.real.specs.Units.{count}
 use Rattle.real.specs.Scalar.{within, clampOf, notBelowZero}
 use Rattle.real.proofs.Clamping.{clamp-fits}
 use Rattle.real.proofs.NotNegative.{zero-le-not-below-zero}
+use Rattle.vector.specs.declared.Vector.{Vector}
+use Rattle.vector.specs.Arithmetic.{dotV}
 use Rattle.body.specs.declared.Body.{Body}
 use Rattle.body.specs.declared.Chassis.{Chassis}
+use Rattle.tyre.specs.declared.Friction.{Friction}
+use Rattle.tyre.specs.Suspension.{suspensionForce}
+use Rattle.tyre.specs.Demand.{sideResponse, rollingResponse, rollingOf}
+use Rattle.tyre.specs.Grip.{skidOf, withSkid, airborne, rescaledBy, rescaledOf, brakedOf, limitOf}
+use Rattle.tyre.specs.Demand3.{Admitted, Brake, WithinBrake}
+use Rattle.tyre.proofs.Demand3.{unpowered as unpowered-within, limit-not-negative}
+use Rattle.wheel.specs.declared.Settings.{Settings}
 use Rattle.wheel.specs.declared.Wheel.{Wheel}
 use Rattle.wheel.specs.declared.Controls.{Controls}
-use Rattle.wheel.specs.declared.Friction.{Friction}
 use Rattle.wheel.specs.declared.Ground.{Ground}
 use Rattle.wheel.specs.declared.RayAnswer.{RayAnswer}
-use Rattle.wheel.specs.Ray.{grounds}
-use Rattle.wheel.specs.Suspension.{forceOf}
-use Rattle.wheel.specs.Demand.{sideOf, uncutOf, rollingOf}
-use Rattle.wheel.specs.Grip.{skidOf, rescaledBy, brakedOf, limitOf}
+use Rattle.wheel.specs.Parts.{withFriction, frictionIn}
+use Rattle.wheel.specs.Ray.{isGrounded}
+use Rattle.wheel.specs.Contact.{directionsOf, relativeVelocity, denominatorsOf}
 use Rattle.wheel.specs.Step as step
-use Rattle.wheel.specs.Step.{suspendedOf, contactForce, wheelForce, wheelLimit, wheelForward, rollingDemand, skidding, frictionOf, rescaledOf, impulsesOf, airborne, withFriction, frictionIn}
-use Rattle.wheel.specs.Demand3.{Admitted, Brake, WithinBrake}
-use Rattle.wheel.proofs.Demand3.{unpowered as unpowered-within, limit-not-negative, impulses-alone}
+use Rattle.wheel.specs.Step.{suspendedOf, contactForce, wheelForce, wheelLimit, rollingDemand, frictionOf, impulsesOf}
+use Rattle.wheel.proofs.Alone.{impulses-alone}
 use Rattle.table.specs.Layout as at
 use Rattle.table.specs.Rows.{wheelAt, wheelOf, controlsOf, chassisAt, rowStart}
 use Rattle.table.proofs.Within.{stored-within-says}
-use Rattle.passes.specs.Frame.{answerAt, groundedAt, groundedWheels, groundAt}
-use Rattle.passes.specs.Passes.{sprung, demandAt, admits, admittedAt, demandsAdmitted}
+use Rattle.passes.specs.Frame.{groundedAt, groundedWheels, groundUnder}
+use Rattle.passes.specs.Passes.{stored, admits, admittedAt, demandsAdmitted}
+use Rattle.passes.specs.Step.{sprung, wholeStep}
 use Rattle.refusals.specs.Shape.{upOf}
 use Rattle.refusals.specs.After.{After}
 use Rattle.refusals.proofs.Says.{wheel-says, stored-settings-say, unit-says}
 use Rattle.refusals.proofs.Settled.{settled-done}
 use Rattle.drive.specs.declared.Driven.{Driven}
-use Rattle.drive.specs.Drive.{driveOf, notDriven, wholeStep}
+use Rattle.drive.specs.Drive.{driveUnder, driveOf, refuseDrive, notDriven}
 use Rattle.drive.proofs.Accepted.{DriveTested, drive-says}
 use Rattle.demands.specs.Impulses.{Step, Accepted, Stepped, Grounded, storedWheel, demandingWheel, drivenWheel, forwardDemand, sideDemand, gripLimit, forwardImpulse, sideImpulse, brakeOf, poweredAt, Alike}
 use Rattle.demands.proofs.Passed.{sprungWheel, sprung-keeps-controls, sprung-keeps-settings, wheel-demanded, friction-stepped, friction-alone}
@@ -54,31 +61,31 @@ unfolding rollingOf brakedOf
 rolled-fits f dt engine brake uncut b u =
     cond-fits f (ne engine zero) (mul f engine dt) (clampOf (neg brake) brake uncut) (mul-fits f engine dt) (clamp-fits f (neg brake) brake uncut (neg-fits f brake b) b u)
 
-module _ (f : Format) (dt : Float) (body : Body) (ground : Ground) (grounded : ℕ) (w : Wheel) where
+module _ (f : Format) (own : Settings) (dt : Float) (body : Body) (ground : Ground) (grounded : ℕ) (axis forward : Vector) (w : Wheel) where
   -- rule 7's rolling demand before the clamp
   abbrev uncutDemand : Float
-  uncutDemand = uncutOf f body ground grounded (w .info .point) (wheelForward f w)
+  uncutDemand = rollingResponse f (dotV f forward (relativeVelocity f body ground (w .info .point))) (denominatorsOf f body ground (w .info .point) forward) grounded
 
   uncut-fits : T (fits f uncutDemand)
-  unfolding uncutOf
+  unfolding rollingResponse
   uncut-fits = div-fits f _ _
 
-  rolling-fits : T (fits f (w .controls .brake)) → T (fits f (rollingDemand f dt body ground grounded w))
+  rolling-fits : T (fits f (w .controls .brake)) → T (fits f (rollingDemand f dt body ground grounded forward w))
   unfolding rollingDemand
   rolling-fits b = rolled-fits f dt (w .controls .engine) (w .controls .brake) uncutDemand b uncut-fits
 
-  side-fits : T (fits f (step.sideDemand f body ground w))
-  unfolding step.sideDemand sideOf
+  side-fits : T (fits f (step.sideDemand f own body ground axis w))
+  unfolding step.sideDemand sideResponse
   side-fits = mul-fits f _ _
 
-  limit-fits : T (fits f (wheelLimit f dt w))
+  limit-fits : T (fits f (wheelLimit f own dt w))
   unfolding wheelLimit limitOf
   limit-fits = mul-fits f _ _
 
 -- rule 6: the force is not below 0
-force-not-negative : (f : Format) (kept : Body) (answer : RayAnswer) (w : Wheel) → le zero (sprungWheel f kept answer w .motion .force) ≡ true
-unfolding suspendedOf wheelForce contactForce forceOf
-force-not-negative f kept answer w = either (grounds answer) _
+force-not-negative : (f : Format) (own : Settings) (kept : Body) (answer : RayAnswer) (w : Wheel) → le zero (sprungWheel f own kept answer w .motion .force) ≡ true
+unfolding suspendedOf wheelForce contactForce suspensionForce
+force-not-negative f own kept answer w = either (isGrounded answer) _
   where
     either : (b : Bool) (x : Float) → le zero (cond b (notBelowZero x) zero) ≡ true
     either true x = zero-le-not-below-zero x
@@ -86,16 +93,16 @@ force-not-negative f kept answer w = either (grounds answer) _
 
 -- ---- wheel i of an accepted step
 abbrev sprungAt : Format → Step → ℕ → Wheel
-sprungAt f d i = sprungWheel f (chassisAt (d .table) .body) (answerAt (d .frame .answers) i) (storedWheel d i)
+sprungAt f d i = sprungWheel f (storedWheel d i .settings) (chassisAt (d .table) .body) (d .frame .answer i) (storedWheel d i)
 
 abbrev bodyIn : Format → Step → Body
-bodyIn f d = sprung f (d .frame) (d .n) (d .table) .chassis .body
+bodyIn f d = sprung f stored (d .frame) (d .n) (d .table) .chassis .body
 
 abbrev groundIn : Step → ℕ → Ground
-groundIn d i = groundAt (d .frame .bodies) (d .frame .dynamic) (d .frame .answers) i
+groundIn d i = groundUnder (d .frame .bodies) (d .frame .dynamic) (d .frame .answer i)
 
 abbrev groundedIn : Step → ℕ
-groundedIn d = groundedWheels (d .frame .answers) (d .n)
+groundedIn d = groundedWheels (d .frame .answer) (d .n)
 
 module _ (f : Format) (d : Step) (accepted : Accepted f d) where
   tests : DriveTested f (d .table) (d .whole) (d .frame) (d .n)
@@ -104,22 +111,22 @@ module _ (f : Format) (d : Step) (accepted : Accepted f d) where
   room : d .n ≤ at.WHEELS
   room = let e = tests .early .frame .each in let l = tests .early .frame .shape .room in omega arith
 
-  driven-table : driveOf f (d .table) (d .whole) (d .frame) (d .n) .table ≡ wholeStep f (d .table) (upOf (d .whole)) (d .frame) (d .n) .table
-  unfolding driveOf
+  driven-table : driveOf f (d .table) (d .whole) (d .frame) (d .n) .table ≡ wholeStep f stored (upOf (d .whole)) (d .frame) (d .n) (d .table) .table
+  unfolding driveOf driveUnder refuseDrive
   driven-table = ap (λ (x : After Driven). x .table) (sym (settled-done _ _ notDriven _ _ (d .table) (d .whole) refl accepted refl))
 
   module _ (i : ℕ) (counted : i < d .n) where
     -- its impulses and its skid: its demands, rescaled; and those of the wheel alone
     pub friction-of-demand : frictionIn (drivenWheel f d i) ≡ rescaledOf f (frictionIn (demandingWheel f d i))
-    friction-of-demand = rw driven-table (friction-stepped f (d .frame) (d .n) room (d .table) (tests .early .frame .shape .sized) i counted (upOf (d .whole)))
+    friction-of-demand = rw driven-table (friction-stepped f stored (d .frame) (d .n) room (d .table) (tests .early .frame .shape .sized) i counted (upOf (d .whole)))
 
-    pub friction-of-wheel : frictionIn (drivenWheel f d i) ≡ impulsesOf f (chassisAt (d .table) .body) (bodyIn f d) (d .frame .dt) (groundIn d i) (groundedIn d) (answerAt (d .frame .answers) i) (storedWheel d i)
-    friction-of-wheel = rw driven-table (friction-alone f (d .frame) (d .n) room (d .table) (tests .early .frame .shape .sized) i counted (upOf (d .whole)))
+    pub friction-of-wheel : frictionIn (drivenWheel f d i) ≡ impulsesOf f (storedWheel d i .settings) (chassisAt (d .table) .body) (bodyIn f d) (d .frame .dt) (groundIn d i) (groundedIn d) (d .frame .answer i) (storedWheel d i)
+    friction-of-wheel = rw driven-table (friction-alone f stored (d .frame) (d .n) room (d .table) (tests .early .frame .shape .sized) i counted (upOf (d .whole)))
 
     -- the wheel at its demands
-    demand-of : demandingWheel f d i ≡ withFriction (sprungAt f d i) (frictionOf f (d .frame .dt) (bodyIn f d) (groundedAt (d .frame .answers) i) (groundIn d i) (groundedIn d) (sprungAt f d i))
-    unfolding demandAt
-    demand-of = wheel-demanded f (d .frame) (d .n) room (d .table) (tests .early .frame .shape .sized) i counted
+    demand-of : demandingWheel f d i ≡ withFriction (sprungAt f d i) (frictionOf f (storedWheel d i .settings) (d .frame .dt) (bodyIn f d) (groundedAt (d .frame .answer) i) (groundIn d i) (groundedIn d) (directionsOf f (sprungAt f d i)) (sprungAt f d i))
+    unfolding groundedAt
+    demand-of = wheel-demanded f stored (d .frame) (d .n) room (d .table) (tests .early .frame .shape .sized) i counted
 
 -- the stored brake: a number of the format, which refusals 2 and 10 let through
 brake-at : (t : List Float) (i : ℕ) → wheelAt t i .controls .brake ≡ getD t (rowStart i + at.BRAKE) nan
@@ -140,31 +147,44 @@ brake-of-stepped {f} {d} {i} s =
     }
 
 -- ---- a grounded wheel
-skid-of-skidding : (f : Format) (dt forward side : Float) (w x : Wheel) → x ≡ withFriction w (skidding f forward side (wheelLimit f dt w))
-    → x .motion .skid ≡ skidOf f (x .motion .forward) (x .motion .side) (wheelLimit f dt x)
-unfolding skidding wheelLimit
-skid-of-skidding f dt forward side w x e = rw e
+skid-of-demand : (f : Format) (dt forward side : Float) (w x : Wheel) → x ≡ withFriction w (withSkid f forward side (wheelLimit f (w .settings) dt w))
+    → x .motion .skid ≡ skidOf f (x .motion .forward) (x .motion .side) (wheelLimit f (x .settings) dt x)
+unfolding withSkid wheelLimit
+skid-of-demand f dt forward side w x e = rw e
 
 module _ (f : Format) (d : Step) (i : ℕ) (g : Grounded f d i) where
-  demand-grounded : demandingWheel f d i
-      ≡ withFriction (sprungAt f d i) (skidding f (rollingDemand f (d .frame .dt) (bodyIn f d) (groundIn d i) (groundedIn d) (sprungAt f d i)) (step.sideDemand f (bodyIn f d) (groundIn d i) (sprungAt f d i)) (wheelLimit f (d .frame .dt) (sprungAt f d i)))
-  unfolding frictionOf
-  demand-grounded = rw (g .contact) at (demand-of f d (g .stepped .accepted) i (g .stepped .counted))
+  -- the wheel after the springs, its directions, and the settings it stores
+  abbrev hung : Wheel
+  hung = sprungAt f d i
 
-  pub limit-is : gripLimit f d i ≡ wheelLimit f (d .frame .dt) (sprungAt f d i)
+  abbrev axis : Vector
+  axis = directionsOf f hung .axis
+
+  abbrev forward : Vector
+  forward = directionsOf f hung .forward
+
+  own-settings : hung .settings ≡ storedWheel d i .settings
+  own-settings = sprung-keeps-settings f _ _ _ (storedWheel d i)
+
+  demand-grounded : demandingWheel f d i
+      ≡ withFriction hung (withSkid f (rollingDemand f (d .frame .dt) (bodyIn f d) (groundIn d i) (groundedIn d) forward hung) (step.sideDemand f (hung .settings) (bodyIn f d) (groundIn d i) axis hung) (wheelLimit f (hung .settings) (d .frame .dt) hung))
+  unfolding frictionOf
+  demand-grounded = rw (g .contact, ← own-settings) at (demand-of f d (g .stepped .accepted) i (g .stepped .counted))
+
+  pub limit-is : gripLimit f d i ≡ wheelLimit f (hung .settings) (d .frame .dt) hung
   unfolding wheelLimit
   limit-is = rw demand-grounded
 
-  pub forward-is : forwardDemand f d i ≡ rollingDemand f (d .frame .dt) (bodyIn f d) (groundIn d i) (groundedIn d) (sprungAt f d i)
-  unfolding skidding
+  pub forward-is : forwardDemand f d i ≡ rollingDemand f (d .frame .dt) (bodyIn f d) (groundIn d i) (groundedIn d) forward hung
+  unfolding withSkid
   forward-is = ap (λ (x : Wheel). x .motion .forward) demand-grounded
 
-  side-is : sideDemand f d i ≡ step.sideDemand f (bodyIn f d) (groundIn d i) (sprungAt f d i)
-  unfolding skidding
+  side-is : sideDemand f d i ≡ step.sideDemand f (hung .settings) (bodyIn f d) (groundIn d i) axis hung
+  unfolding withSkid
   side-is = ap (λ (x : Wheel). x .motion .side) demand-grounded
 
   skid-is : demandingWheel f d i .motion .skid ≡ skidOf f (forwardDemand f d i) (sideDemand f d i) (gripLimit f d i)
-  skid-is = skid-of-skidding f (d .frame .dt) _ _ (sprungAt f d i) (demandingWheel f d i) demand-grounded
+  skid-is = skid-of-demand f (d .frame .dt) _ _ hung (demandingWheel f d i) demand-grounded
 
   -- its impulses are its demands, rescaled by its own skid
   pub forward-rescaled : forwardImpulse f d i ≡ rescaledBy f (skidOf f (forwardDemand f d i) (sideDemand f d i) (gripLimit f d i)) (forwardDemand f d i)
@@ -176,39 +196,39 @@ module _ (f : Format) (d : Step) (i : ℕ) (g : Grounded f d i) where
   side-rescaled = ap (λ (x : Friction). x .side) (friction-of-demand f d (g .stepped .accepted) i (g .stepped .counted)) ∙ ap (λ (k : Float). rescaledBy f k (sideDemand f d i)) skid-is
 
   -- refusal 7 let its demands and its limit through
-  admitted-seven : admits f (d .frame .dt) (demandingWheel f d i) ≡ true
+  admitted-seven : admits f (demandingWheel f d i .settings) (d .frame .dt) (demandingWheel f d i) ≡ true
   unfolding demandsAdmitted admittedAt pick
   admitted-seven =
       let u = g .stepped .counted in
-      rw (g .contact) at (every-at (admittedAt f (d .frame .dt) (d .frame .answers) _) (d .n) 0 i (tests f d (g .stepped .accepted) .demands) (omega arith) (omega arith))
+      rw (g .contact) at (every-at (admittedAt f stored (d .frame .dt) (d .frame .answer) _) (d .n) 0 i (tests f d (g .stepped .accepted) .demands) (omega arith) (omega arith))
 
   pub forward-admitted : Admitted f (forwardDemand f d i)
   unfolding admits
   forward-admitted =
       let b = brake-of-stepped (g .stepped) .admitted .held in
       record {
-        held = rw forward-is (rolling-fits f (d .frame .dt) (bodyIn f d) (groundIn d i) (groundedIn d) (sprungAt f d i) (rw (sprung-keeps-controls f _ _ (storedWheel d i)) b));
+        held = rw forward-is (rolling-fits f (hung .settings) (d .frame .dt) (bodyIn f d) (groundIn d i) (groundedIn d) axis forward hung (rw (sprung-keeps-controls f _ _ _ (storedWheel d i)) b));
         bounded = pick-true _ _ admitted-seven .0;
       }
 
   pub side-admitted : Admitted f (sideDemand f d i)
   unfolding admits
   side-admitted =
-      record { held = rw side-is (side-fits f (d .frame .dt) (bodyIn f d) (groundIn d i) (groundedIn d) (sprungAt f d i)); bounded = pick-true _ _ (pick-true _ _ admitted-seven .1) .0 }
+      record { held = rw side-is (side-fits f (hung .settings) (d .frame .dt) (bodyIn f d) (groundIn d i) (groundedIn d) axis forward hung); bounded = pick-true _ _ (pick-true _ _ admitted-seven .1) .0 }
 
   pub limit-admitted : Admitted f (gripLimit f d i)
   unfolding admits
   limit-admitted =
-      record { held = limit-fits f (d .frame .dt) (bodyIn f d) (groundIn d i) (groundedIn d) (demandingWheel f d i); bounded = pick-true _ _ (pick-true _ _ admitted-seven .1) .1 }
+      record { held = limit-fits f (demandingWheel f d i .settings) (d .frame .dt) (bodyIn f d) (groundIn d i) (groundedIn d) axis forward (demandingWheel f d i); bounded = pick-true _ _ (pick-true _ _ admitted-seven .1) .1 }
 
   -- the limit is not negative
   pub limit-at-least : le zero (gripLimit f d i) ≡ true
   unfolding wheelLimit
   limit-at-least =
       let tested = tests f d (g .stepped .accepted) in
-      let w = sprungAt f d i in
-      let slip : le zero (w .settings .slip) ≡ true = rw (sprung-keeps-settings f _ _ (storedWheel d i)) (wheel-says f (d .table) i (stored-settings-say f (d .table) (d .n) i (tested .early .ranges) (g .stepped .counted)) .settings .slip) in
-      rw limit-is (limit-not-negative f (w .motion .force) (d .frame .dt) (w .settings .slip) (force-not-negative f _ _ (storedWheel d i)) (unit-says (d .frame .dt) (tested .early .unit) .above) slip (rw limit-is at limit-admitted))
+      let slip : le zero (hung .settings .tuning .slip) ≡ true = rw own-settings (wheel-says f (d .table) i (stored-settings-say f (d .table) (d .n) i (tested .early .ranges) (g .stepped .counted)) .settings .slip) in
+      rw limit-is
+      (limit-not-negative f (hung .motion .force) (d .frame .dt) (hung .settings .tuning .slip) (force-not-negative f _ _ _ (storedWheel d i)) (unit-says (d .frame .dt) (tested .early .unit) .above) slip (rw limit-is at limit-admitted))
 
 -- ---- an unpowered wheel, grounded or not
 rolled-unpowered : (f : Format) (dt engine brake uncut : Float) → ne engine zero ≡ false → rollingOf f dt engine brake uncut ≡ brakedOf brake uncut
@@ -216,22 +236,23 @@ unfolding rollingOf
 rolled-unpowered f dt engine brake uncut h = rw h
 
 module _ (f : Format) (d : Step) (i : ℕ) (s : Stepped f d i) (unpowered : poweredAt d i ≡ false) where
-  grounded-within-brake : groundedAt (d .frame .answers) i ≡ true → WithinBrake f (brakeOf d i) (forwardImpulse f d i)
+  grounded-within-brake : groundedAt (d .frame .answer) i ≡ true → WithinBrake f (brakeOf d i) (forwardImpulse f d i)
   unfolding rollingDemand
   grounded-within-brake contact =
       let g : Grounded f d i = record { stepped = s; contact = contact } in
-      let uncut = uncutDemand f (d .frame .dt) (bodyIn f d) (groundIn d i) (groundedIn d) (sprungAt f d i) in
+      let w = sprungAt f d i in
+      let uncut = uncutDemand f (w .settings) (d .frame .dt) (bodyIn f d) (groundIn d i) (groundedIn d) (directionsOf f w .axis) (directionsOf f w .forward) w in
       let braked : forwardDemand f d i ≡ brakedOf (brakeOf d i) uncut =
       forward-is f d i g
-      ∙ ap (λ (c : Controls). rollingOf f (d .frame .dt) (c .engine) (c .brake) uncut) (sprung-keeps-controls f _ _ (storedWheel d i))
+      ∙ ap (λ (c : Controls). rollingOf f (d .frame .dt) (c .engine) (c .brake) uncut) (sprung-keeps-controls f _ _ _ (storedWheel d i))
       ∙ rolled-unpowered f (d .frame .dt) (storedWheel d i .controls .engine) (brakeOf d i) uncut unpowered in
       let within =
       unpowered-within f (brakeOf d i) uncut (sideDemand f d i) (gripLimit f d i) (brake-of-stepped s)
-      (uncut-fits f (d .frame .dt) (bodyIn f d) (groundIn d i) (groundedIn d) (sprungAt f d i)) (subst (Admitted f) braked (forward-admitted f d i g)) (limit-at-least f d i g) in
+      (uncut-fits f (w .settings) (d .frame .dt) (bodyIn f d) (groundIn d i) (groundedIn d) (directionsOf f w .axis) (directionsOf f w .forward) w) (subst (Admitted f) braked (forward-admitted f d i g)) (limit-at-least f d i g) in
       subst (WithinBrake f (brakeOf d i)) (sym (forward-rescaled f d i g))
       (subst (λ (x : Float). WithinBrake f (brakeOf d i) (rescaledBy f (skidOf f x (sideDemand f d i) (gripLimit f d i)) x)) (sym braked) within)
 
-  airborne-within-brake : groundedAt (d .frame .answers) i ≡ false → WithinBrake f (brakeOf d i) (forwardImpulse f d i)
+  airborne-within-brake : groundedAt (d .frame .answer) i ≡ false → WithinBrake f (brakeOf d i) (forwardImpulse f d i)
   unfolding frictionOf rescaledOf rescaledBy lt
   airborne-within-brake contact =
       let demand : demandingWheel f d i ≡ withFriction (sprungAt f d i) airborne = rw contact at (demand-of f d (s .accepted) i (s .counted)) in
@@ -243,15 +264,15 @@ module _ (f : Format) (d : Step) (i : ℕ) (s : Stepped f d i) (unpowered : powe
       zero-counts f = omega arith
 
   pub within-brake : WithinBrake f (brakeOf d i) (forwardImpulse f d i)
-  within-brake = either (groundedAt (d .frame .answers) i) refl
+  within-brake = either (groundedAt (d .frame .answer) i) refl
     where
-      either : (b : Bool) → groundedAt (d .frame .answers) i ≡ b → WithinBrake f (brakeOf d i) (forwardImpulse f d i)
+      either : (b : Bool) → groundedAt (d .frame .answer) i ≡ b → WithinBrake f (brakeOf d i) (forwardImpulse f d i)
       either true e = grounded-within-brake e
       either false e = airborne-within-brake e
 
 -- ---- two steps that are alike to wheel i
 ground-alike : {f : Format} {d e : Step} {i : ℕ} → Alike f d e i → groundIn d i ≡ groundIn e i
-unfolding groundAt
+unfolding groundUnder
 ground-alike a =
     let p = a .ground-bodies in
     let q = a .ground-dynamic in
@@ -264,5 +285,5 @@ friction-alike {f} {d} {e} {i} p q u v a =
     let sprung : bodyIn f d ≡ bodyIn f e = ap (λ (c : Chassis). c .body) (a .after-springs) in
     let grounded : groundedIn d ≡ groundedIn e = a .grounded-wheels in
     friction-of-wheel f d p i u
-    ∙ impulses-alone f kept sprung (a .time-step) (ground-alike a) grounded (a .own-hit) (a .own-row)
+    ∙ impulses-alone f (ap (λ (w : Wheel). w .settings) (a .own-row)) kept sprung (a .time-step) (ground-alike a) grounded (a .own-hit) (a .own-row)
     ∙ sym (friction-of-wheel f e q i v)

@@ -23,7 +23,8 @@ use Rattle.vehicle.specs.Controls.{setControls, refuseControls, unaimed, withCo
 use Rattle.vehicle.specs.Read.{readWheel, refuseRead, notRead, readingOf}
 use Rattle.vehicle.proofs.Accepted.{SetUpTested, set-up-says, add-says, set-controls-says}
 use Rattle.drive.specs.Aim.{aimOf, refuseAim, notAimed, aimedBy, aimedTable}
-use Rattle.drive.specs.Drive.{driveOf, refuseDrive, notDriven, drivenBy}
+use Rattle.passes.specs.Passes.{stored}
+use Rattle.drive.specs.Drive.{driveUnder, driveOf, refuseUnder, refuseDrive, notDriven, drivenBy}
 use Rattle.drive.proofs.Accepted.{aim-says, drive-says}
 use Rattle.demands.specs.History.{State, state, Call, SetUp, AddWheel, SetControls, Aim, Drive, ReadWheel, answered, accepted, run, runAll, drives, undrives, noneUndrives, drivenSince}
 use Rattle.demands.proofs.Shapes.{shape-other-table, shape-marked, shape-counted, mark-marked}
@@ -97,7 +98,7 @@ unaimed-shape {t} {m} s = either (eqb (markOf m) at.AIMED)
     either false = s
 
 pub left-by : (f : Format) (c : Call) (s : State) → Shape (s .table) (s .whole) → LeftBy f c s
-unfolding answered drives undrives setUp addWheel setControls aimOf driveOf readWheel notAimed aimedBy notDriven drivenBy notRead readingOf pick
+unfolding answered drives undrives setUp addWheel setControls aimOf driveOf driveUnder refuseDrive readWheel notAimed aimedBy notDriven drivenBy notRead readingOf pick
 left-by f (SetUp up forward) s h =
     left-of-settled (λ n. n) _ _ (refuseSetUp (s .table) (s .whole) up forward) (λ n. n) _ (s .table) (s .whole) refl refl h
     (λ z. set-up-shape up forward (set-up-says (s .table) (s .whole) up forward z)) (λ z. refl) _ refl
@@ -125,10 +126,10 @@ left-by f (Aim chassis) s h =
     shape-marked (shape-other-table a (aimedTable f chassis (countOf (s .whole)) (s .table)) (length-aimed f chassis (countOf (s .whole)) (s .table) (a .sized) (a .room))) at.AIMED (omega arith))
     (λ z. marked-not-driven (s .whole) at.AIMED (h .four) (omega arith)) _ refl
 left-by f (Drive frame n) s h =
-    left-of-settled (λ r. r .number) _ _ (refuseDrive f (s .table) (s .whole) frame n) notDriven _ (s .table) (s .whole) refl refl h
+    left-of-settled (λ r. r .number) _ _ (refuseUnder f stored (s .table) (s .whole) frame n) notDriven _ (s .table) (s .whole) refl refl h
     (λ z.
     let a = drive-says f (s .table) (s .whole) frame n z .early .frame in
-    shape-marked (shape-other-table (a .shape) _ (length-whole-step f (s .table) _ frame n (a .shape .sized) (let e = a .each in let r = a .shape .room in omega arith))) at.DRIVEN (omega arith))
+    shape-marked (shape-other-table (a .shape) _ (length-whole-step f stored (s .table) _ frame n (a .shape .sized) (let e = a .each in let r = a .shape .room in omega arith))) at.DRIVEN (omega arith))
     (λ z. marked-driven (s .whole) (h .four)) _ refl
 left-by f (ReadWheel i) s h =
     left-of-settled (λ r. r .number) _ _ (refuseRead (s .table) (s .whole) i) notRead _ (s .table) (s .whole) refl refl h (λ z. h) (λ z. refl) _ refl

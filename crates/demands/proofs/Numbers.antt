@@ -18,7 +18,7 @@ use Rattle.vehicle.specs.Add.{addWheel, refuseAdd}
 use Rattle.vehicle.specs.Controls.{setControls, refuseControls}
 use Rattle.vehicle.specs.Read.{readWheel, refuseRead, notRead, readingOf}
 use Rattle.drive.specs.Aim.{aimOf, refuseAim, notAimed, aimedBy, chassisTests, placeTests}
-use Rattle.drive.specs.Drive.{driveOf, refuseDrive, notDriven, drivenBy, earlyTests, frameTests, numberTests, rangeTests, stepTests}
+use Rattle.drive.specs.Drive.{driveUnder, driveOf, refuseUnder, refuseDrive, notDriven, drivenBy, earlyTests, frameTests, numberTests, rangeTests, stepTests}
 use Rattle.demands.specs.History.{State, Call, SetUp, AddWheel, SetControls, Aim, Drive, ReadWheel, answered}
 
 -- a list of refusals with no number above k
@@ -41,7 +41,7 @@ settled-le : {R : Type 0} (of : R → ℕ) (l : List Test) (refused : ℕ → R)
 settled-le of l refused done t m p q h = rw (settled-number (firstFailed l) refused done t m of p q) (first-failed-le 10 l h)
 
 pub number-le-ten : (f : Format) (c : Call) (s : State) → answered f c s .reply ≤ 10
-unfolding answered setUp addWheel setControls aimOf driveOf readWheel notAimed aimedBy notDriven drivenBy notRead readingOf refuseSetUp refuseAdd refuseControls refuseAim chassisTests placeTests refuseDrive earlyTests frameTests numberTests rangeTests stepTests refuseRead all pick
+unfolding answered setUp addWheel setControls aimOf driveOf driveUnder readWheel notAimed aimedBy notDriven drivenBy notRead readingOf refuseSetUp refuseAdd refuseControls refuseAim chassisTests placeTests refuseDrive refuseUnder earlyTests frameTests numberTests rangeTests stepTests refuseRead all pick
 number-le-ten f (SetUp up forward) s = settled-le (λ n. n) _ _ _ (s .table) (s .whole) refl refl refl
 number-le-ten f (AddWheel settings) s = settled-le (λ n. n) _ _ _ (s .table) (s .whole) refl refl refl
 number-le-ten f (SetControls i controls) s = settled-le (λ n. n) _ _ _ (s .table) (s .whole) refl refl refl

@@ -1,5 +1,5 @@
--- Wheel i through the passes of a step, over a table of the right size. In order: after the springs, after the demands, at the end; what its two impulses come to; and what a grounded wheel has at its demands:
--- controls, slip and force as they were, and the skid of its demands and its limit. Assumes nothing.
+-- Wheel i through the passes of a step under given settings, over a table of the right size. In order: what a cast, a suspension and a spin keep of one wheel; after the springs, its directions, after the demands, at the end;
+-- what its two impulses come to. Assumes nothing.
 use Prim.Native.Nat.{ℕ, _≤_, _<_}
 use mathlib.Core.Bool.{Bool}
 use mathlib.Core.List.{List}
@@ -7,77 +7,105 @@ use mathlib.Core.Path.{_≡_, refl, ap, _∙_}
 use lib.ListN.{length}
 use lib.Ieee.{Float, Format}
 use Rattle.body.specs.declared.Body.{Body}
+use Rattle.tyre.specs.Grip.{rescaledOf}
+use Rattle.wheel.specs.declared.Settings.{Settings}
 use Rattle.wheel.specs.declared.Wheel.{Wheel}
+use Rattle.wheel.specs.declared.Directions.{Directions}
 use Rattle.wheel.specs.declared.RayAnswer.{RayAnswer}
 use Rattle.wheel.specs.declared.RayAnswer.the-variants.{Nothing, Hit, HitUp}
-use Rattle.wheel.specs.Ray.{castOf, hitOf, missOf, grounds}
-use Rattle.wheel.specs.Step.{suspendedOf, rescaledOf, impulsesOf, frictionIn, turnedBy, spunOf}
+use Rattle.wheel.specs.Parts.{withFriction, frictionIn}
+use Rattle.wheel.specs.Ray.{rayCast, hitOf, missOf, isGrounded}
+use Rattle.wheel.specs.Contact.{directionsOf}
+use Rattle.wheel.specs.Step.{suspendedOf, frictionOf, impulsesOf, spunBy, updateRotation}
 use Rattle.table.specs.Layout as at
 use Rattle.table.specs.Rows.{wheelAt, chassisAt}
 use Rattle.table.proofs.Laws.{wheel-stays}
-use Rattle.passes.specs.Frame.{Frame, answerAt, groundedAt, groundedWheels, groundAt}
-use Rattle.passes.specs.Passes.{sprung, demanded, demandAt, pushedWork, storedWork, casts, rescales}
+use Rattle.passes.specs.Frame.{Frame, groundedAt, groundedWheels, groundUnder}
+use Rattle.passes.specs.Passes.{noDirections, directionsIn, directionsAt, demandOf, demandAt, casts, rescales}
+use Rattle.passes.specs.Step.{sprung, demanded, pushed, spun, demandStep, wholeStep}
 use Rattle.passes.proofs.Laws.{wheel-casts, wheel-suspensions, wheel-demands, wheel-rescales, wheel-spins}
-use Rattle.drive.specs.Drive.{demandStep, wholeStep}
+use Rattle.passes.proofs.Gives.{gives-at}
 use Rattle.demands.proofs.Sizes.{length-cast, length-sprung, length-demanded, length-rescaled}
 
 -- the wheel once its ray answer is in and its force is worked out
-abbrev pub sprungWheel : Format → Body → RayAnswer → Wheel → Wheel
-sprungWheel f kept answer w = suspendedOf f (kept .invmass) (grounds answer) (castOf f kept w answer)
+abbrev pub sprungWheel : Format → Settings → Body → RayAnswer → Wheel → Wheel
+sprungWheel f s kept answer w = suspendedOf f s (kept .invmass) (isGrounded answer) (rayCast f s kept answer w)
 
--- ---- one wheel: what a cast and a suspension keep
-cast-keeps-controls : (f : Format) (kept : Body) (w : Wheel) (answer : RayAnswer) → castOf f kept w answer .controls ≡ w .controls
-unfolding castOf hitOf missOf
-cast-keeps-controls f kept w Nothing = refl
-cast-keeps-controls f kept w (Hit time normal named) = refl
-cast-keeps-controls f kept w (HitUp time normal upward named) = refl
+-- ---- one wheel
+cast-keeps-controls : (f : Format) (s : Settings) (kept : Body) (answer : RayAnswer) (w : Wheel) → rayCast f s kept answer w .controls ≡ w .controls
+unfolding rayCast hitOf missOf
+cast-keeps-controls f s kept Nothing w = refl
+cast-keeps-controls f s kept (Hit time normal named) w = refl
+cast-keeps-controls f s kept (HitUp time normal upward named) w = refl
 
-cast-keeps-settings : (f : Format) (kept : Body) (w : Wheel) (answer : RayAnswer) → castOf f kept w answer .settings ≡ w .settings
-unfolding castOf hitOf missOf
-cast-keeps-settings f kept w Nothing = refl
-cast-keeps-settings f kept w (Hit time normal named) = refl
-cast-keeps-settings f kept w (HitUp time normal upward named) = refl
+cast-keeps-settings : (f : Format) (s : Settings) (kept : Body) (answer : RayAnswer) (w : Wheel) → rayCast f s kept answer w .settings ≡ w .settings
+unfolding rayCast hitOf missOf
+cast-keeps-settings f s kept Nothing w = refl
+cast-keeps-settings f s kept (Hit time normal named) w = refl
+cast-keeps-settings f s kept (HitUp time normal upward named) w = refl
 
-pub sprung-keeps-controls : (f : Format) (kept : Body) (answer : RayAnswer) (w : Wheel) → sprungWheel f kept answer w .controls ≡ w .controls
+pub sprung-keeps-controls : (f : Format) (s : Settings) (kept : Body) (answer : RayAnswer) (w : Wheel) → sprungWheel f s kept answer w .controls ≡ w .controls
 unfolding suspendedOf
-sprung-keeps-controls f kept answer w = cast-keeps-controls f kept w answer
+sprung-keeps-controls f s kept answer w = cast-keeps-controls f s kept answer w
 
-pub sprung-keeps-settings : (f : Format) (kept : Body) (answer : RayAnswer) (w : Wheel) → sprungWheel f kept answer w .settings ≡ w .settings
+pub sprung-keeps-settings : (f : Format) (s : Settings) (kept : Body) (answer : RayAnswer) (w : Wheel) → sprungWheel f s kept answer w .settings ≡ w .settings
 unfolding suspendedOf
-sprung-keeps-settings f kept answer w = cast-keeps-settings f kept w answer
+sprung-keeps-settings f s kept answer w = cast-keeps-settings f s kept answer w
 
--- a spin keeps the impulses and the skid
-spun-keeps-friction : (f : Format) (dt : Float) (contact : Bool) (chassis : Body) (w : Wheel) → frictionIn (spunOf f dt contact chassis w) ≡ frictionIn w
-unfolding spunOf turnedBy
-spun-keeps-friction f dt contact chassis w = refl
+spun-keeps-friction : (f : Format) (s : Settings) (dt : Float) (contact : Bool) (chassis : Body) (w : Wheel) → frictionIn (updateRotation f s dt contact chassis w) ≡ frictionIn w
+unfolding updateRotation spunBy
+spun-keeps-friction f s dt contact chassis w = refl
 
 -- ---- wheel i of a step
-module _ (f : Format) (r : Frame) (n : ℕ) (l : n ≤ at.WHEELS) (t : List Float) (s : length t ≡ at.SIZE) (i : ℕ) (h : i < n) where
-  pub wheel-sprung : wheelAt (sprung f r n t .table) i ≡ sprungWheel f (chassisAt t .body) (answerAt (r .answers) i) (wheelAt t i)
+module _ (f : Format) (tune : Settings → Settings) (r : Frame) (n : ℕ) (l : n ≤ at.WHEELS) (t : List Float) (s : length t ≡ at.SIZE) (i : ℕ) (h : i < n) where
+  -- the settings that count for it, the chassis as it was kept, and the wheel after the springs
+  abbrev own : Settings
+  own = tune (wheelAt t i .settings)
+
+  abbrev kept : Body
+  kept = chassisAt t .body
+
+  abbrev hung : Wheel
+  hung = sprungWheel f own kept (r .answer i) (wheelAt t i)
+
+  pub wheel-sprung : wheelAt (sprung f tune r n t .table) i ≡ hung
   unfolding sprung groundedAt
   wheel-sprung =
-      let kept = chassisAt t .body in
-      wheel-suspensions f n (casts f kept (r .answers) n t) (length-cast f r n l t s kept) l i h (kept .invmass) (r .answers)
-      ∙ ap (suspendedOf f (kept .invmass) (grounds (answerAt (r .answers) i))) (wheel-casts f n t s l i h kept (r .answers))
+      wheel-suspensions f tune n (casts f tune kept (r .answer) n t) (length-cast f tune r n l t s kept) l i h (kept .invmass) (r .answer)
+      ∙ ap (λ (w : Wheel). suspendedOf f (tune (w .settings)) (kept .invmass) (isGrounded (r .answer i)) w) (wheel-casts f tune n t s l i h kept (r .answer))
+      ∙ ap (λ (x : Settings). suspendedOf f (tune x) (kept .invmass) (isGrounded (r .answer i)) (rayCast f own kept (r .answer i) (wheelAt t i))) (cast-keeps-settings f own kept (r .answer i) (wheelAt t i))
 
-  pub wheel-demanded : wheelAt (demandStep f t r n .table) i
-      ≡ demandAt f r (sprung f r n t .chassis .body) (groundedWheels (r .answers) n) i (sprungWheel f (chassisAt t .body) (answerAt (r .answers) i) (wheelAt t i))
-  unfolding demandStep demanded
+  directions-sprung : directionsAt (sprung f tune r n t .directions) i ≡ directionsOf f hung
+  unfolding sprung directionsIn
+  directions-sprung = gives-at (directionsOf f) _ (sprung f tune r n t .table) noDirections n i l h ∙ ap (directionsOf f) wheel-sprung
+
+  -- both demands, with its own directions
+  abbrev friction : _
+  friction = frictionOf f own (r .dt) (sprung f tune r n t .chassis .body) (isGrounded (r .answer i)) (groundUnder (r .bodies) (r .dynamic) (r .answer i)) (groundedWheels (r .answer) n) (directionsOf f hung) hung
+
+  pub wheel-demanded : wheelAt (demandStep f tune r n t .table) i ≡ withFriction hung friction
+  unfolding demandStep demanded demandAt demandOf
   wheel-demanded =
-      let body = sprung f r n t .chassis .body in
-      let grounded = groundedWheels (r .answers) n in
-      wheel-demands f n (sprung f r n t .table) (length-sprung f r n l t s) l i h r body grounded ∙ ap (demandAt f r body grounded i) wheel-sprung
+      let body = sprung f tune r n t .chassis .body in
+      let grounded = groundedWheels (r .answer) n in
+      let d = directionsAt (sprung f tune r n t .directions) in
+      wheel-demands f tune n (sprung f tune r n t .table) (length-sprung f tune r n l t s) l i h r body grounded d
+      ∙ ap (demandAt f tune r body grounded d i) wheel-sprung
+      ∙ ap (λ (x : Directions). demandOf f tune (r .dt) body (r .bodies) (r .dynamic) (r .answer i) grounded x hung) directions-sprung
+      ∙ ap (λ (x : Settings). withFriction hung (frictionOf f (tune x) (r .dt) body (isGrounded (r .answer i)) (groundUnder (r .bodies) (r .dynamic) (r .answer i)) grounded (directionsOf f hung) hung))
+      (sprung-keeps-settings f own kept (r .answer i) (wheelAt t i))
 
   -- the impulses that the step leaves are the demands, rescaled
-  pub friction-stepped : (up : ℕ) → frictionIn (wheelAt (wholeStep f t up r n .table) i) ≡ rescaledOf f (frictionIn (wheelAt (demandStep f t r n .table) i))
-  unfolding wholeStep storedWork pushedWork
+  pub friction-stepped : (up : ℕ) → frictionIn (wheelAt (wholeStep f tune up r n t .table) i) ≡ rescaledOf f (frictionIn (wheelAt (demandStep f tune r n t .table) i))
+  unfolding wholeStep spun pushed
   friction-stepped up =
-      let after = rescales f n (demandStep f t r n .table) in
-      ap frictionIn (wheel-stays _ _ i ∙ wheel-spins f n after (length-rescaled f r n l t s) l i h (r .dt) _ (r .answers) ∙ ap (spunOf f (r .dt) _ _) (wheel-rescales f n (demandStep f t r n .table) (length-demanded f r n l t s) l i h))
-      ∙ spun-keeps-friction f (r .dt) _ _ _
+      let after = rescales f n (demandStep f tune r n t .table) in
+      ap frictionIn (wheel-stays _ _ i ∙ wheel-spins f tune n after (length-rescaled f tune r n l t s) l i h (r .dt) _ (r .answer))
+      ∙ spun-keeps-friction f _ (r .dt) _ _ _
+      ∙ ap frictionIn (wheel-rescales f tune n (demandStep f tune r n t .table) (length-demanded f tune r n l t s) l i h)
 
   -- so they are those of one wheel alone
-  pub friction-alone : (up : ℕ) → frictionIn (wheelAt (wholeStep f t up r n .table) i)
-      ≡ impulsesOf f (chassisAt t .body) (sprung f r n t .chassis .body) (r .dt) (groundAt (r .bodies) (r .dynamic) (r .answers) i) (groundedWheels (r .answers) n) (answerAt (r .answers) i) (wheelAt t i)
-  unfolding impulsesOf demandAt groundedAt
+  pub friction-alone : (up : ℕ) → frictionIn (wheelAt (wholeStep f tune up r n t .table) i)
+      ≡ impulsesOf f own kept (sprung f tune r n t .chassis .body) (r .dt) (groundUnder (r .bodies) (r .dynamic) (r .answer i)) (groundedWheels (r .answer) n) (r .answer i) (wheelAt t i)
+  unfolding impulsesOf
   friction-alone up = friction-stepped up ∙ ap (λ (w : Wheel). rescaledOf f (frictionIn w)) wheel-demanded

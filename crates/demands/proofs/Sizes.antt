@@ -5,36 +5,37 @@ use mathlib.Core.Path.{_≡_}
 use lib.ListN.{length}
 use lib.Ieee.{Float, Format}
 use Rattle.body.specs.declared.Chassis.{Chassis}
+use Rattle.wheel.specs.declared.Settings.{Settings}
 use Rattle.table.specs.Layout as at
 use Rattle.table.specs.Rows.{putChassis}
 use Rattle.table.proofs.Laws.{length-keep}
 use Rattle.passes.specs.Frame.{Frame}
-use Rattle.passes.specs.Passes.{sprung, demanded, pushedWork, storedWork, transforms, casts, suspensions, demands, rescales, spins}
+use Rattle.passes.specs.Passes.{transforms, casts, suspensions, demands, rescales, spins}
+use Rattle.passes.specs.Step.{sprung, demanded, pushed, spun, demandStep, wholeStep}
 use Rattle.passes.proofs.Laws.{length-each}
 use Rattle.drive.specs.Aim.{aimedTable}
-use Rattle.drive.specs.Drive.{demandStep, wholeStep}
 
 pub length-aimed : (f : Format) (c : Chassis) (n : ℕ) (t : List Float) → length t ≡ at.SIZE → n ≤ at.WHEELS → length (aimedTable f c n t) ≡ at.SIZE
 unfolding aimedTable transforms
 length-aimed f c n t s l = length-each _ n (putChassis t c) (length-keep t c s) l
 
-module _ (f : Format) (r : Frame) (n : ℕ) (l : n ≤ at.WHEELS) (t : List Float) (s : length t ≡ at.SIZE) where
-  pub length-cast : (body : _) → length (casts f body (r .answers) n t) ≡ at.SIZE
+module _ (f : Format) (tune : Settings → Settings) (r : Frame) (n : ℕ) (l : n ≤ at.WHEELS) (t : List Float) (s : length t ≡ at.SIZE) where
+  pub length-cast : (body : _) → length (casts f tune body (r .answer) n t) ≡ at.SIZE
   unfolding casts
   length-cast body = length-each _ n t s l
 
-  pub length-sprung : length (sprung f r n t .table) ≡ at.SIZE
+  pub length-sprung : length (sprung f tune r n t .table) ≡ at.SIZE
   unfolding sprung suspensions
   length-sprung = length-each _ n _ (length-cast _) l
 
-  pub length-demanded : length (demandStep f t r n .table) ≡ at.SIZE
+  pub length-demanded : length (demandStep f tune r n t .table) ≡ at.SIZE
   unfolding demandStep demanded demands
   length-demanded = length-each _ n _ length-sprung l
 
-  pub length-rescaled : length (rescales f n (demandStep f t r n .table)) ≡ at.SIZE
+  pub length-rescaled : length (rescales f n (demandStep f tune r n t .table)) ≡ at.SIZE
   unfolding rescales
   length-rescaled = length-each _ n _ length-demanded l
 
-pub length-whole-step : (f : Format) (t : List Float) (up : ℕ) (r : Frame) (n : ℕ) → length t ≡ at.SIZE → n ≤ at.WHEELS → length (wholeStep f t up r n .table) ≡ at.SIZE
-unfolding wholeStep storedWork pushedWork spins
-length-whole-step f t up r n s l = length-keep _ _ (length-each _ n _ (length-rescaled f r n l t s) l)
+pub length-whole-step : (f : Format) (tune : Settings → Settings) (t : List Float) (up : ℕ) (r : Frame) (n : ℕ) → length t ≡ at.SIZE → n ≤ at.WHEELS → length (wholeStep f tune up r n t .table) ≡ at.SIZE
+unfolding wholeStep spun pushed spins
+length-whole-step f tune t up r n s l = length-keep _ _ (length-each _ n _ (length-rescaled f tune r n l t s) l)

@@ -4,17 +4,17 @@ use mathlib.Core.Bool.{Bool, true, false}
 use mathlib.Core.List.{List}
 use mathlib.Core.Path.{_≡_}
 use lib.Dec.{T}
-use lib.IntN.{negsuc}
 use lib.ListN.{getD}
-use lib.Ieee.{Float, Format, nan, fin, fits, ne}
+use lib.Ieee.{Float, Format, nan, fits, ne}
 use Rattle.real.specs.Number.{zero}
 use Rattle.wheel.specs.declared.Wheel.{Wheel}
-use Rattle.wheel.specs.Grip.{slides}
+use Rattle.tyre.specs.Grip.{slides}
 use Rattle.wheel.specs.Step.{wheelLimit}
 use Rattle.table.specs.Rows.{wheelAt, chassisAt}
-use Rattle.passes.specs.Frame.{Frame, answerAt, groundedAt, groundedWheels}
-use Rattle.passes.specs.Passes.{sprung}
-use Rattle.drive.specs.Drive.{driveOf, refuseDrive, demandStep}
+use Rattle.passes.specs.Frame.{Frame, groundedAt, groundedWheels}
+use Rattle.passes.specs.Passes.{stored}
+use Rattle.passes.specs.Step.{sprung, demandStep}
+use Rattle.drive.specs.Drive.{driveOf, refuseDrive}
 
 -- each number of a table is one that the format holds: a lent slice of f32 has no others at binary32
 abbrev pub Held : Format → List Float → Type 0
@@ -40,14 +40,14 @@ pub record Stepped (f : Format) (d : Step) (i : ℕ) : Type 0 where
 -- "a grounded wheel's ..": the ray of wheel i hit
 pub record Grounded (f : Format) (d : Step) (i : ℕ) : Type 0 where
   pub stepped : Stepped f d i
-  pub contact : groundedAt (d .frame .answers) i ≡ true
+  pub contact : groundedAt (d .frame .answer) i ≡ true
 
 -- wheel i as it was stored; as rule 7 leaves it, before rule 8; and as the drive leaves it
 abbrev pub storedWheel : Step → ℕ → Wheel
 storedWheel d i = wheelAt (d .table) i
 
 abbrev pub demandingWheel : Format → Step → ℕ → Wheel
-demandingWheel f d i = wheelAt (demandStep f (d .table) (d .frame) (d .n) .table) i
+demandingWheel f d i = wheelAt (demandStep f stored (d .frame) (d .n) (d .table) .table) i
 
 abbrev pub drivenWheel : Format → Step → ℕ → Wheel
 drivenWheel f d i = wheelAt (driveOf f (d .table) (d .whole) (d .frame) (d .n) .table) i
@@ -60,7 +60,7 @@ abbrev pub sideDemand : Format → Step → ℕ → Float
 sideDemand f d i = demandingWheel f d i .motion .side
 
 abbrev pub gripLimit : Format → Step → ℕ → Float
-gripLimit f d i = wheelLimit f (d .frame .dt) (demandingWheel f d i)
+gripLimit f d i = wheelLimit f (demandingWheel f d i .settings) (d .frame .dt) (demandingWheel f d i)
 
 abbrev pub forwardImpulse : Format → Step → ℕ → Float
 forwardImpulse f d i = drivenWheel f d i .motion .forward
@@ -70,10 +70,6 @@ sideImpulse f d i = drivenWheel f d i .motion .side
 
 abbrev pub brakeOf : Step → ℕ → Float
 brakeOf d i = storedWheel d i .controls .brake
-
--- 2^-40
-abbrev pub leastLimit : Float
-leastLimit = fin false 1 (negsuc 39)
 
 -- the demand passes the slide test; "An unpowered wheel": its engine force is 0
 abbrev pub slidesAt : Format → Step → ℕ → Bool
@@ -88,7 +84,7 @@ pub record Alike (f : Format) (d e : Step) (i : ℕ) : Type 0 where
   pub ground-bodies : d .frame .bodies ≡ e .frame .bodies
   pub ground-dynamic : d .frame .dynamic ≡ e .frame .dynamic
   pub kept-chassis : chassisAt (d .table) ≡ chassisAt (e .table)
-  pub after-springs : sprung f (d .frame) (d .n) (d .table) .chassis ≡ sprung f (e .frame) (e .n) (e .table) .chassis
-  pub grounded-wheels : groundedWheels (d .frame .answers) (d .n) ≡ groundedWheels (e .frame .answers) (e .n)
+  pub after-springs : sprung f stored (d .frame) (d .n) (d .table) .chassis ≡ sprung f stored (e .frame) (e .n) (e .table) .chassis
+  pub grounded-wheels : groundedWheels (d .frame .answer) (d .n) ≡ groundedWheels (e .frame .answer) (e .n)
   pub own-row : storedWheel d i ≡ storedWheel e i
-  pub own-hit : answerAt (d .frame .answers) i ≡ answerAt (e .frame .answers) i
+  pub own-hit : d .frame .answer i ≡ e .frame .answer i
