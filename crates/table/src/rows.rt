@@ -157,15 +157,15 @@ pub fn read_chassis(l: &[f32]) -> Chassis
     }
 }
 
-pub fn write_chassis(l: &mut [f32], c: Chassis)
-    requires { ⌜ length (now l) ≡ at.KEPT ⌝ }
-    ensures { λ _. ⌜ now (l .exit) ≡ chassisList c ⌝ }
+// The numbers of a chassis, in order.
+pub fn chassis_numbers(c: Chassis) -> [f32; KEPT]
+    ensures { λ r. ⌜ r ≡ chassisList c ⌝ }
 {
     let p = c.pose;
     let b = c.body;
     let e = c.effective;
     let i = b.inertia;
-    let numbers = [
+    [
         p.translation.x,
         p.translation.y,
         p.translation.z,
@@ -192,8 +192,7 @@ pub fn write_chassis(l: &mut [f32], c: Chassis)
         i.yy,
         i.yz,
         i.zz,
-    ];
-    copy(l, &numbers);
+    ]
 }
 
 // The kept chassis of the table.
@@ -209,7 +208,8 @@ pub fn put_chassis(table: &mut [f32], c: Chassis)
     requires { ⌜ length (now table) ≡ at.SIZE ⌝ }
     ensures { λ _. ⌜ now (table .exit) ≡ putChassis (now (table .entry)) c ⌝ }
 {
-    write_chassis(&mut table[0..KEPT], c);
+    let numbers = chassis_numbers(c);
+    copy(&mut table[0..KEPT], &numbers);
 }
 
 fn read_body(l: &[f32]) -> Body
