@@ -94,13 +94,13 @@ rotation-says f q h = range-says BAND-LOW BAND-HIGH (squaresOf f q) h
 pub record SettingsRange (s : Settings) : Type 0 where
   pub radius : lt zero (s .radius) ≡ true
   pub rest : le zero (s .rest) ≡ true
-  pub travel : le zero (s .travel) ≡ true
-  pub stiffness : le zero (s .stiffness) ≡ true
-  pub compression : le zero (s .compression) ≡ true
-  pub relaxation : le zero (s .relaxation) ≡ true
-  pub most : le zero (s .most) ≡ true
-  pub slip : le zero (s .slip) ≡ true
-  pub side : le zero (s .side) ≡ true
+  pub travel : le zero (s .tuning .travel) ≡ true
+  pub stiffness : le zero (s .tuning .stiffness) ≡ true
+  pub compression : le zero (s .tuning .compression) ≡ true
+  pub relaxation : le zero (s .tuning .damping) ≡ true
+  pub most : le zero (s .tuning .most) ≡ true
+  pub slip : le zero (s .tuning .slip) ≡ true
+  pub side : le zero (s .tuning .sideways) ≡ true
 
 pub settings-say : (s : Settings) → settingsInRange s ≡ true → SettingsRange s
 unfolding settingsInRange sizesInRange springInRange tyreInRange notNegative

@@ -1,7 +1,7 @@
 -- Document 01, refusals 2 and 6: the numbers that a call is handed, and the ray answers of a drive. Definitions only.
 use Prim.Native.Nat.{ℕ}
 use mathlib.Core.Bool.{Bool, true, false}
-use mathlib.Core.List.{List, [], _∷_, _++_}
+use mathlib.Core.List.{List}
 use lib.Dec.{leb}
 use lib.Ieee.{Float}
 use lib.ListN.{getD}
@@ -13,21 +13,16 @@ use Rattle.wheel.specs.declared.Settings.{Settings}
 use Rattle.wheel.specs.declared.Controls.{Controls}
 use Rattle.wheel.specs.declared.RayAnswer.{RayAnswer}
 use Rattle.wheel.specs.declared.RayAnswer.the-variants.{Nothing, Hit, HitUp}
-use Rattle.table.specs.Rows.{vectorList, rotationList, chassisList}
+use Rattle.table.specs.Rows.{vectorList, settingsList, controlsList, chassisList}
 use Rattle.table.specs.Bounds.{allWithin, HANDED}
 use Rattle.refusals.specs.Ranges.{inUnit}
 
 -- ---- refusal 2: a number handed in is finite and at most 2^20 in magnitude
 unfoldable pub settingsHanded : Settings → Bool
-settingsHanded s =
-    allWithin HANDED
-    (vectorList (s .connection)
-    ++ vectorList (s .direction)
-    ++ vectorList (s .axle)
-    ++ (s .rest ∷ s .travel ∷ s .radius ∷ s .stiffness ∷ s .compression ∷ s .relaxation ∷ s .slip ∷ s .side ∷ s .most ∷ []))
+settingsHanded s = allWithin HANDED (settingsList s)
 
 unfoldable pub controlsHanded : Controls → Bool
-controlsHanded c = allWithin HANDED (rotationList (c .steering) ++ (c .engine ∷ c .brake ∷ []))
+controlsHanded c = allWithin HANDED (controlsList c)
 
 unfoldable pub chassisHanded : Chassis → Bool
 chassisHanded c = allWithin HANDED (chassisList c)

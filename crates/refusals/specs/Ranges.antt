@@ -28,13 +28,13 @@ notNegative x = le zero x
 
 -- radius above 0; rest length, travel, slip, stiffness, dampings, side stiffness and maximum force at least 0
 unfoldable pub springInRange : Settings → Bool
-springInRange s = pick (notNegative (s .stiffness)) (pick (notNegative (s .compression)) (pick (notNegative (s .relaxation)) (notNegative (s .most)) false) false) false
+springInRange s = pick (notNegative (s .tuning .stiffness)) (pick (notNegative (s .tuning .compression)) (pick (notNegative (s .tuning .damping)) (notNegative (s .tuning .most)) false) false) false
 
 unfoldable pub sizesInRange : Settings → Bool
-sizesInRange s = pick (lt zero (s .radius)) (pick (notNegative (s .rest)) (notNegative (s .travel)) false) false
+sizesInRange s = pick (lt zero (s .radius)) (pick (notNegative (s .rest)) (notNegative (s .tuning .travel)) false) false
 
 unfoldable pub tyreInRange : Settings → Bool
-tyreInRange s = pick (notNegative (s .slip)) (notNegative (s .side)) false
+tyreInRange s = pick (notNegative (s .tuning .slip)) (notNegative (s .tuning .sideways)) false
 
 unfoldable pub settingsInRange : Settings → Bool
 settingsInRange s = pick (sizesInRange s) (pick (springInRange s) (tyreInRange s) false) false

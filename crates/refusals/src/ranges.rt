@@ -42,16 +42,16 @@ pub fn is_not_negative(x: f32) -> bool
 fn is_spring_in_range(s: Settings) -> bool
     ensures { λ r. ⌜ r ≡ springInRange s ⌝ }
 {
-    if !is_not_negative(s.stiffness) {
+    if !is_not_negative(s.tuning.stiffness) {
         return false;
     }
-    if !is_not_negative(s.compression) {
+    if !is_not_negative(s.tuning.compression) {
         return false;
     }
-    if !is_not_negative(s.relaxation) {
+    if !is_not_negative(s.tuning.damping) {
         return false;
     }
-    is_not_negative(s.most)
+    is_not_negative(s.tuning.most)
 }
 
 fn are_sizes_in_range(s: Settings) -> bool
@@ -61,7 +61,7 @@ fn are_sizes_in_range(s: Settings) -> bool
         if !is_not_negative(s.rest) {
             return false;
         }
-        is_not_negative(s.travel)
+        is_not_negative(s.tuning.travel)
     } else {
         false
     }
@@ -70,10 +70,10 @@ fn are_sizes_in_range(s: Settings) -> bool
 fn is_tyre_in_range(s: Settings) -> bool
     ensures { λ r. ⌜ r ≡ tyreInRange s ⌝ }
 {
-    if !is_not_negative(s.slip) {
+    if !is_not_negative(s.tuning.slip) {
         return false;
     }
-    is_not_negative(s.side)
+    is_not_negative(s.tuning.sideways)
 }
 
 pub fn are_settings_in_range(s: Settings) -> bool
