@@ -40,7 +40,7 @@ use Rattle.wheel.specs.Step as step
 use Rattle.wheel.specs.Step.{suspendedOf, contactForce, wheelForce, wheelLimit, rollingDemand, frictionOf, impulsesOf}
 use Rattle.wheel.proofs.Alone.{impulses-alone}
 use Rattle.table.specs.Layout as at
-use Rattle.table.specs.Rows.{wheelAt, wheelOf, controlsOf, chassisAt, rowStart}
+use Rattle.table.specs.Rows.{wheelAt, wheelOf, controlsAt, chassisAt, rowStart}
 use Rattle.table.proofs.Within.{stored-within-says}
 use Rattle.passes.specs.Frame.{groundedAt, groundedWheels, groundUnder}
 use Rattle.passes.specs.Passes.{stored, admits, admittedAt, demandsAdmitted}
@@ -129,9 +129,9 @@ module _ (f : Format) (d : Step) (accepted : Accepted f d) where
     demand-of = wheel-demanded f stored (d .frame) (d .n) room (d .table) (tests .early .frame .shape .sized) i counted
 
 -- the stored brake: a number of the format, which refusals 2 and 10 let through
-brake-at : (t : List Float) (i : ℕ) → wheelAt t i .controls .brake ≡ getD t (rowStart i + at.BRAKE) nan
-unfolding wheelAt wheelOf controlsOf
-brake-at t i = getD-part t (rowStart i) at.ROW at.BRAKE nan (omega arith)
+brake-at : (t : List Float) (i : ℕ) → wheelAt t i .controls .brake ≡ getD t (rowStart i + (at.CONTROLS-AT + at.BRAKE)) nan
+unfolding wheelAt wheelOf controlsAt
+brake-at t i = getD-part t (rowStart i) at.ROW (at.CONTROLS-AT + at.BRAKE) nan (omega arith)
 
 pub brake-of-stepped : {f : Format} {d : Step} {i : ℕ} → Stepped f d i → Brake f (brakeOf d i)
 brake-of-stepped {f} {d} {i} s =
@@ -140,8 +140,8 @@ brake-of-stepped {f} {d} {i} s =
     let u = s .counted in
     record {
       admitted = record {
-        held = rw (brake-at (d .table) i) (s .held (rowStart i + at.BRAKE));
-        bounded = rw (brake-at (d .table) i) (stored-within-says (d .table) (d .n) (rowStart i + at.BRAKE) (tested .early .frame .shape .sized) l (tested .early .stored) (omega arith));
+        held = rw (brake-at (d .table) i) (s .held (rowStart i + (at.CONTROLS-AT + at.BRAKE)));
+        bounded = rw (brake-at (d .table) i) (stored-within-says (d .table) (d .n) (rowStart i + (at.CONTROLS-AT + at.BRAKE)) (tested .early .frame .shape .sized) l (tested .early .stored) (omega arith));
       };
       at-least = wheel-says f (d .table) i (stored-settings-say f (d .table) (d .n) i (tested .early .ranges) u) .controls .brake;
     }

@@ -142,7 +142,7 @@ pub fn spin_wheel(table: &mut [f32], i: usize, dt: f32, chassis: Body, contact: 
     let w = table::rows::get_wheel(&table[..], i);
     let r = wheel::step::update_rotation(w.settings, dt, contact, chassis, w);
     let m = r.motion;
-    table::rows::put_turn(table, i, m.rotation, m.spin);
+    table::rows::put_rotation(table, i, m.rotation, m.spin);
 }
 
 pub fn spin_pass(table: &mut [f32], n: usize, dt: f32, chassis: Body, answers: [RayAnswer; WHEELS])

@@ -1,7 +1,6 @@
 -- Document 01, refusals 2 and 6: the numbers that a call is handed, and the ray answers of a drive. Definitions only.
 use Prim.Native.Nat.{ℕ}
 use mathlib.Core.Bool.{Bool, true}
-use mathlib.Core.List.{[], _∷_, _++_}
 use lib.Dec.{leb}
 use lib.Ieee.{Float}
 use Rattle.lists.specs.Pick.{_and_}
@@ -12,21 +11,16 @@ use Rattle.wheel.specs.declared.Settings.{Settings}
 use Rattle.wheel.specs.declared.Controls.{Controls}
 use Rattle.wheel.specs.declared.RayAnswer.{RayAnswer}
 use Rattle.wheel.specs.declared.RayAnswer.the-variants.{Nothing, Hit, HitUp}
-use Rattle.table.specs.Rows.{vectorList, rotationList, chassisList}
+use Rattle.table.specs.Rows.{vectorList, settingsList, controlsList, chassisList}
 use Rattle.table.specs.Bounds.{allWithin, HANDED}
 use Rattle.refusals.specs.Ranges.{inUnit}
 
 -- ---- refusal 2: a number handed in is finite and at most 2^20 in magnitude
 unfoldable pub settingsHanded : Settings → Bool
-settingsHanded s =
-    allWithin HANDED
-    (vectorList (s .connection)
-    ++ vectorList (s .direction)
-    ++ vectorList (s .axle)
-    ++ (s .rest ∷ s .tuning .travel ∷ s .radius ∷ s .tuning .stiffness ∷ s .tuning .compression ∷ s .tuning .damping ∷ s .tuning .slip ∷ s .tuning .sideways ∷ s .tuning .most ∷ []))
+settingsHanded s = allWithin HANDED (settingsList s)
 
 unfoldable pub controlsHanded : Controls → Bool
-controlsHanded c = allWithin HANDED (rotationList (c .steering) ++ (c .engine ∷ c .brake ∷ []))
+controlsHanded c = allWithin HANDED (controlsList c)
 
 unfoldable pub chassisHanded : Chassis → Bool
 chassisHanded c = allWithin HANDED (chassisList c)

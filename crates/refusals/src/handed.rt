@@ -2,7 +2,6 @@
 use super::ranges;
 use body::Chassis;
 use table::bounds::HANDED;
-use table::layout::KEPT;
 use vector::Vector;
 use wheel::Controls;
 use wheel::RayAnswer;
@@ -16,46 +15,21 @@ ghost use Rattle.refusals.specs.Handed.{settingsHanded, controlsHanded, 
 pub fn are_settings_handed(s: Settings) -> bool
     ensures { λ r. ⌜ r ≡ settingsHanded s ⌝ }
 {
-    let c = s.connection;
-    let d = s.direction;
-    let a = s.axle;
-    let numbers = [
-        c.x,
-        c.y,
-        c.z,
-        d.x,
-        d.y,
-        d.z,
-        a.x,
-        a.y,
-        a.z,
-        s.rest,
-        s.tuning.travel,
-        s.radius,
-        s.tuning.stiffness,
-        s.tuning.compression,
-        s.tuning.damping,
-        s.tuning.slip,
-        s.tuning.sideways,
-        s.tuning.most,
-    ];
+    let numbers = table::parts::settings_numbers(s);
     table::bounds::all_within(HANDED, &numbers)
 }
 
 pub fn are_controls_handed(c: Controls) -> bool
     ensures { λ r. ⌜ r ≡ controlsHanded c ⌝ }
 {
-    let q = c.steering;
-    let b = q.b;
-    let numbers = [b.x, b.y, b.z, q.w, c.engine, c.brake];
+    let numbers = table::parts::controls_numbers(c);
     table::bounds::all_within(HANDED, &numbers)
 }
 
 pub fn is_chassis_handed(c: Chassis) -> bool
     ensures { λ r. ⌜ r ≡ chassisHanded c ⌝ }
 {
-    let mut numbers = [0.0; KEPT];
-    table::rows::write_chassis(&mut numbers, c);
+    let numbers = table::rows::chassis_numbers(c);
     table::bounds::all_within(HANDED, &numbers)
 }
 

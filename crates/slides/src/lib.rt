@@ -1,9 +1,4 @@
 // Rule 8's rescale over a lent slice of small records (forward, side, skid). The records of a table's wheels are gathered, lent, and written back into their rows.
-use table::layout::FORWARD_IMPULSE;
-use table::layout::KEPT;
-use table::layout::ROW;
-use table::layout::SIDE_IMPULSE;
-use table::layout::SKID;
 use table::layout::WHEELS;
 use tyre::Friction;
 ghost use mathlib.Core.Path.{_≡_};
@@ -44,28 +39,6 @@ fn rescale_first(slides: [Friction; WHEELS], n: usize) -> [Friction; WHEELS]
     lent
 }
 
-// The record of a row.
-fn read_slide(row: &[f32]) -> Friction
-    requires { ⌜ length (now row) ≡ at.ROW ⌝ }
-    ensures { λ r. ⌜ r ≡ frictionIn (wheelOf (now (row .entry))) ⌝ }
-{
-    Friction {
-        forward: row[FORWARD_IMPULSE],
-        side: row[SIDE_IMPULSE],
-        skid: row[SKID],
-    }
-}
-
-// The record of wheel i.
-fn get_slide(table: &[f32], i: usize) -> Friction
-    requires { ⌜ (length (now table) ≡ at.SIZE) × (i < at.WHEELS) ⌝ }
-    ensures { λ r. ⌜ r ≡ frictionIn (wheelAt (now (table .entry)) i) ⌝ }
-{
-    let a = KEPT + i * ROW;
-    let e = a + ROW;
-    read_slide(&table[a..e])
-}
-
 // The records of the first n wheels; those of a wheel in the air after them.
 fn gather(table: &[f32], n: usize) -> [Friction; WHEELS]
     requires { ⌜ (length (now table) ≡ at.SIZE) × (n ≤ at.WHEELS) ⌝ }
@@ -75,7 +48,7 @@ fn gather(table: &[f32], n: usize) -> [Friction; WHEELS]
     let mut slides = [airborne; WHEELS];
     let mut i = 0usize;
     while i < n {
-        slides[i] = get_slide(table, i);
+        slides[i] = table::rows::get_friction(table, i);
         i += 1usize;
     }
     slides

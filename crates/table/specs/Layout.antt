@@ -1,6 +1,6 @@
 -- Document 01, "What a vehicle keeps": the layout of the lent table. Each place is a named constant, counted from the one before it, and nothing else knows a number. Definitions only.
--- The kept chassis stands first, then the rows. A row holds the numbers of `Wheel` and `RayCastInfo` in their declared order, steering as a rotation;
--- contact, ground object and roll influence are not kept.
+-- The kept chassis stands first, then the rows. A row holds the numbers of `Wheel` and `RayCastInfo`, part by part, steering as a rotation; contact, ground object and roll influence are
+-- not kept. The places in a part are counted from its start, and its length is the last of them: settings and controls are handed in as lists in the same order (docs/STREAM.md).
 use Prim.Native.Nat.{ℕ, _+_, _*_}
 
 -- ---- the kept chassis, at the start of the table
@@ -31,7 +31,7 @@ INERTIA = EFFECTIVE + 3
 abbrev pub KEPT : ℕ
 KEPT = INERTIA + 6
 
--- ---- a row
+-- ---- the ray info of a wheel
 abbrev pub NORMAL : ℕ
 NORMAL = 0
 
@@ -44,8 +44,12 @@ LENGTH = POINT + 3
 abbrev pub HARD : ℕ
 HARD = LENGTH + 1
 
+abbrev pub INFO : ℕ
+INFO = HARD + 3
+
+-- ---- the place of a wheel: its centre, and the world's direction and axle
 abbrev pub CENTRE : ℕ
-CENTRE = HARD + 3
+CENTRE = 0
 
 abbrev pub WORLD-DIRECTION : ℕ
 WORLD-DIRECTION = CENTRE + 3
@@ -53,8 +57,37 @@ WORLD-DIRECTION = CENTRE + 3
 abbrev pub WORLD-AXLE : ℕ
 WORLD-AXLE = WORLD-DIRECTION + 3
 
+abbrev pub PLACE : ℕ
+PLACE = WORLD-AXLE + 3
+
+-- ---- a tuning, in the source's declared order
+abbrev pub STIFFNESS : ℕ
+STIFFNESS = 0
+
+abbrev pub COMPRESSION : ℕ
+COMPRESSION = STIFFNESS + 1
+
+abbrev pub DAMPING : ℕ
+DAMPING = COMPRESSION + 1
+
+abbrev pub TRAVEL : ℕ
+TRAVEL = DAMPING + 1
+
+abbrev pub SIDEWAYS : ℕ
+SIDEWAYS = TRAVEL + 1
+
+abbrev pub SLIP : ℕ
+SLIP = SIDEWAYS + 1
+
+abbrev pub MOST : ℕ
+MOST = SLIP + 1
+
+abbrev pub TUNING : ℕ
+TUNING = MOST + 1
+
+-- ---- the settings of a wheel
 abbrev pub CONNECTION : ℕ
-CONNECTION = WORLD-AXLE + 3
+CONNECTION = 0
 
 abbrev pub DIRECTION : ℕ
 DIRECTION = CONNECTION + 3
@@ -65,65 +98,81 @@ AXLE = DIRECTION + 3
 abbrev pub REST : ℕ
 REST = AXLE + 3
 
-abbrev pub TRAVEL : ℕ
-TRAVEL = REST + 1
-
 abbrev pub RADIUS : ℕ
-RADIUS = TRAVEL + 1
+RADIUS = REST + 1
 
-abbrev pub STIFFNESS : ℕ
-STIFFNESS = RADIUS + 1
+abbrev pub TUNING-AT : ℕ
+TUNING-AT = RADIUS + 1
 
-abbrev pub COMPRESSION : ℕ
-COMPRESSION = STIFFNESS + 1
+abbrev pub SETTINGS : ℕ
+SETTINGS = TUNING-AT + TUNING
 
-abbrev pub RELAXATION : ℕ
-RELAXATION = COMPRESSION + 1
-
-abbrev pub SLIP : ℕ
-SLIP = RELAXATION + 1
-
-abbrev pub SIDE-STIFFNESS : ℕ
-SIDE-STIFFNESS = SLIP + 1
-
-abbrev pub ROTATION : ℕ
-ROTATION = SIDE-STIFFNESS + 1
-
-abbrev pub SPIN : ℕ
-SPIN = ROTATION + 1
-
-abbrev pub MOST : ℕ
-MOST = SPIN + 1
-
-abbrev pub FORWARD-IMPULSE : ℕ
-FORWARD-IMPULSE = MOST + 1
-
-abbrev pub SIDE-IMPULSE : ℕ
-SIDE-IMPULSE = FORWARD-IMPULSE + 1
-
-abbrev pub STEERING : ℕ
-STEERING = SIDE-IMPULSE + 1
-
+-- ---- the controls of a wheel
 abbrev pub ENGINE : ℕ
-ENGINE = STEERING + 4
+ENGINE = 0
 
 abbrev pub BRAKE : ℕ
 BRAKE = ENGINE + 1
 
-abbrev pub INVERSE : ℕ
-INVERSE = BRAKE + 1
+abbrev pub STEERING : ℕ
+STEERING = BRAKE + 1
 
+abbrev pub CONTROLS : ℕ
+CONTROLS = STEERING + 4
+
+-- ---- how the ray of a wheel met the ground
 abbrev pub VELOCITY : ℕ
-VELOCITY = INVERSE + 1
+VELOCITY = 0
+
+abbrev pub INVERSE : ℕ
+INVERSE = VELOCITY + 1
+
+abbrev pub APPROACH : ℕ
+APPROACH = INVERSE + 1
+
+-- ---- the motion of a wheel
+abbrev pub ROTATION : ℕ
+ROTATION = 0
+
+abbrev pub SPIN : ℕ
+SPIN = ROTATION + 1
 
 abbrev pub FORCE : ℕ
-FORCE = VELOCITY + 1
+FORCE = SPIN + 1
+
+abbrev pub FORWARD-IMPULSE : ℕ
+FORWARD-IMPULSE = FORCE + 1
+
+abbrev pub SIDE-IMPULSE : ℕ
+SIDE-IMPULSE = FORWARD-IMPULSE + 1
 
 abbrev pub SKID : ℕ
-SKID = FORCE + 1
+SKID = SIDE-IMPULSE + 1
+
+abbrev pub MOTION : ℕ
+MOTION = SKID + 1
+
+-- ---- a row: one part after another
+abbrev pub INFO-AT : ℕ
+INFO-AT = 0
+
+abbrev pub PLACE-AT : ℕ
+PLACE-AT = INFO-AT + INFO
+
+abbrev pub SETTINGS-AT : ℕ
+SETTINGS-AT = PLACE-AT + PLACE
+
+abbrev pub CONTROLS-AT : ℕ
+CONTROLS-AT = SETTINGS-AT + SETTINGS
+
+abbrev pub APPROACH-AT : ℕ
+APPROACH-AT = CONTROLS-AT + CONTROLS
+
+abbrev pub MOTION-AT : ℕ
+MOTION-AT = APPROACH-AT + APPROACH
 
 abbrev pub ROW : ℕ
-ROW = SKID + 1
+ROW = MOTION-AT + MOTION
 
 -- ---- the table
 abbrev pub WHEELS : ℕ

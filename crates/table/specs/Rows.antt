@@ -1,6 +1,5 @@
 -- A wheel as a row of the lent table, the kept chassis, and a lent ground body, each as a list of numbers and back. Definitions only.
 use Prim.Native.Nat.{ℕ, _+_, _*_}
-use mathlib.Core.Bool.{Bool}
 use mathlib.Core.List.{List, [], _∷_, _++_}
 use lib.ListN.{getD}
 use lib.Ieee.{Float, nan}
@@ -10,11 +9,12 @@ use Rattle.vector.specs.declared.Rotation.{Rotation}
 use Rattle.vector.specs.declared.Inertia.{Inertia}
 use Rattle.body.specs.declared.Body.{Body}
 use Rattle.body.specs.declared.Chassis.{Chassis}
+use Rattle.tyre.specs.declared.WheelTuning.{WheelTuning}
+use Rattle.tyre.specs.declared.Approach.{Approach}
 use Rattle.wheel.specs.declared.Settings.{Settings}
 use Rattle.wheel.specs.declared.Controls.{Controls}
 use Rattle.wheel.specs.declared.RayCastInfo.{RayCastInfo}
 use Rattle.wheel.specs.declared.Place.{Place}
-use Rattle.tyre.specs.declared.Approach.{Approach}
 use Rattle.wheel.specs.declared.Motion.{Motion}
 use Rattle.wheel.specs.declared.Wheel.{Wheel}
 use Rattle.table.specs.Layout as at
@@ -32,51 +32,7 @@ rotationAt l a = record { b = vectorAt l a; w = numberAt l (a + 3) }
 unfoldable pub inertiaAt : List Float → ℕ → Inertia
 inertiaAt l a = record { xx = numberAt l a; xy = numberAt l (a + 1); xz = numberAt l (a + 2); yy = numberAt l (a + 3); yz = numberAt l (a + 4); zz = numberAt l (a + 5) }
 
--- ---- a row
-unfoldable pub infoOf : List Float → RayCastInfo
-infoOf r = record { normal = vectorAt r at.NORMAL; point = vectorAt r at.POINT; length = numberAt r at.LENGTH; hard = vectorAt r at.HARD }
-
-unfoldable pub placeOf : List Float → Place
-placeOf r = record { centre = vectorAt r at.CENTRE; direction = vectorAt r at.WORLD-DIRECTION; axle = vectorAt r at.WORLD-AXLE }
-
-unfoldable pub settingsOf : List Float → Settings
-settingsOf r = record {
-  connection = vectorAt r at.CONNECTION;
-  direction = vectorAt r at.DIRECTION;
-  axle = vectorAt r at.AXLE;
-  rest = numberAt r at.REST;
-  radius = numberAt r at.RADIUS;
-  tuning = record {
-    stiffness = numberAt r at.STIFFNESS;
-    compression = numberAt r at.COMPRESSION;
-    damping = numberAt r at.RELAXATION;
-    travel = numberAt r at.TRAVEL;
-    sideways = numberAt r at.SIDE-STIFFNESS;
-    slip = numberAt r at.SLIP;
-    most = numberAt r at.MOST;
-  };
-}
-
-unfoldable pub controlsOf : List Float → Controls
-controlsOf r = record { steering = rotationAt r at.STEERING; engine = numberAt r at.ENGINE; brake = numberAt r at.BRAKE }
-
-unfoldable pub approachIn : List Float → Approach
-approachIn r = record { velocity = numberAt r at.VELOCITY; inverse = numberAt r at.INVERSE }
-
-unfoldable pub motionOf : List Float → Motion
-motionOf r = record {
-  rotation = numberAt r at.ROTATION;
-  spin = numberAt r at.SPIN;
-  force = numberAt r at.FORCE;
-  forward = numberAt r at.FORWARD-IMPULSE;
-  side = numberAt r at.SIDE-IMPULSE;
-  skid = numberAt r at.SKID;
-}
-
-unfoldable pub wheelOf : List Float → Wheel
-wheelOf r = record { info = infoOf r; place = placeOf r; settings = settingsOf r; controls = controlsOf r; approach = approachIn r; motion = motionOf r }
-
--- ---- numbers in a row's order
+-- ---- the numbers of a vector, a rotation and an inertia, in order
 abbrev pub vectorList : Vector → List Float
 vectorList v = v .x ∷ v .y ∷ v .z ∷ []
 
@@ -86,23 +42,90 @@ rotationList q = vectorList (q .b) ++ (q .w ∷ [])
 abbrev pub inertiaList : Inertia → List Float
 inertiaList i = i .xx ∷ i .xy ∷ i .xz ∷ i .yy ∷ i .yz ∷ i .zz ∷ []
 
+-- ---- each part of a wheel, as it stands in a list from place a on, and its numbers in that order
+unfoldable pub infoAt : List Float → ℕ → RayCastInfo
+infoAt l a = record { normal = vectorAt l (a + at.NORMAL); point = vectorAt l (a + at.POINT); length = numberAt l (a + at.LENGTH); hard = vectorAt l (a + at.HARD) }
+
+abbrev pub infoList : RayCastInfo → List Float
+infoList i = vectorList (i .normal) ++ vectorList (i .point) ++ (i .length ∷ []) ++ vectorList (i .hard)
+
+unfoldable pub placeAt : List Float → ℕ → Place
+placeAt l a = record { centre = vectorAt l (a + at.CENTRE); direction = vectorAt l (a + at.WORLD-DIRECTION); axle = vectorAt l (a + at.WORLD-AXLE) }
+
+abbrev pub placeList : Place → List Float
+placeList p = vectorList (p .centre) ++ vectorList (p .direction) ++ vectorList (p .axle)
+
+unfoldable pub tuningAt : List Float → ℕ → WheelTuning
+tuningAt l a = record {
+  stiffness = numberAt l (a + at.STIFFNESS);
+  compression = numberAt l (a + at.COMPRESSION);
+  damping = numberAt l (a + at.DAMPING);
+  travel = numberAt l (a + at.TRAVEL);
+  sideways = numberAt l (a + at.SIDEWAYS);
+  slip = numberAt l (a + at.SLIP);
+  most = numberAt l (a + at.MOST);
+}
+
+abbrev pub tuningList : WheelTuning → List Float
+tuningList t = t .stiffness ∷ t .compression ∷ t .damping ∷ t .travel ∷ t .sideways ∷ t .slip ∷ t .most ∷ []
+
+unfoldable pub settingsAt : List Float → ℕ → Settings
+settingsAt l a = record {
+  connection = vectorAt l (a + at.CONNECTION);
+  direction = vectorAt l (a + at.DIRECTION);
+  axle = vectorAt l (a + at.AXLE);
+  rest = numberAt l (a + at.REST);
+  radius = numberAt l (a + at.RADIUS);
+  tuning = tuningAt l (a + at.TUNING-AT);
+}
+
+abbrev pub settingsList : Settings → List Float
+settingsList s = vectorList (s .connection) ++ vectorList (s .direction) ++ vectorList (s .axle) ++ (s .rest ∷ s .radius ∷ tuningList (s .tuning))
+
+unfoldable pub controlsAt : List Float → ℕ → Controls
+controlsAt l a = record { engine = numberAt l (a + at.ENGINE); brake = numberAt l (a + at.BRAKE); steering = rotationAt l (a + at.STEERING) }
+
+abbrev pub controlsList : Controls → List Float
+controlsList c = c .engine ∷ c .brake ∷ rotationList (c .steering)
+
+unfoldable pub approachAt : List Float → ℕ → Approach
+approachAt l a = record { velocity = numberAt l (a + at.VELOCITY); inverse = numberAt l (a + at.INVERSE) }
+
+abbrev pub approachList : Approach → List Float
+approachList a = a .velocity ∷ a .inverse ∷ []
+
+unfoldable pub motionAt : List Float → ℕ → Motion
+motionAt l a = record {
+  rotation = numberAt l (a + at.ROTATION);
+  spin = numberAt l (a + at.SPIN);
+  force = numberAt l (a + at.FORCE);
+  forward = numberAt l (a + at.FORWARD-IMPULSE);
+  side = numberAt l (a + at.SIDE-IMPULSE);
+  skid = numberAt l (a + at.SKID);
+}
+
+abbrev pub motionList : Motion → List Float
+motionList m = m .rotation ∷ m .spin ∷ m .force ∷ m .forward ∷ m .side ∷ m .skid ∷ []
+
+-- ---- a row
+unfoldable pub wheelOf : List Float → Wheel
+wheelOf r = record {
+  info = infoAt r at.INFO-AT;
+  place = placeAt r at.PLACE-AT;
+  settings = settingsAt r at.SETTINGS-AT;
+  controls = controlsAt r at.CONTROLS-AT;
+  approach = approachAt r at.APPROACH-AT;
+  motion = motionAt r at.MOTION-AT;
+}
+
 unfoldable pub rowOf : Wheel → List Float
 rowOf w =
-    vectorList (w .info .normal)
-    ++ vectorList (w .info .point)
-    ++ (w .info .length ∷ [])
-    ++ vectorList (w .info .hard)
-    ++ vectorList (w .place .centre)
-    ++ vectorList (w .place .direction)
-    ++ vectorList (w .place .axle)
-    ++ vectorList (w .settings .connection)
-    ++ vectorList (w .settings .direction)
-    ++ vectorList (w .settings .axle)
-    ++ (w .settings .rest ∷ w .settings .tuning .travel ∷ w .settings .radius ∷ w .settings .tuning .stiffness ∷ [])
-    ++ (w .settings .tuning .compression ∷ w .settings .tuning .damping ∷ w .settings .tuning .slip ∷ w .settings .tuning .sideways ∷ [])
-    ++ (w .motion .rotation ∷ w .motion .spin ∷ w .settings .tuning .most ∷ w .motion .forward ∷ w .motion .side ∷ [])
-    ++ rotationList (w .controls .steering)
-    ++ (w .controls .engine ∷ w .controls .brake ∷ w .approach .inverse ∷ w .approach .velocity ∷ w .motion .force ∷ w .motion .skid ∷ [])
+    infoList (w .info)
+    ++ placeList (w .place)
+    ++ settingsList (w .settings)
+    ++ controlsList (w .controls)
+    ++ approachList (w .approach)
+    ++ motionList (w .motion)
 
 -- ---- wheel i of a table, and the table with another wheel i
 abbrev pub rowStart : ℕ → ℕ

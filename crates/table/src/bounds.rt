@@ -1,6 +1,5 @@
 // How large a number may be: document 01, refusal 2.
-use super::layout::KEPT;
-use super::layout::ROW;
+use super::rows::row_start;
 ghost use mathlib.Core.Path.{_≡_};
 ghost use Prim.Native.Nat.{_≤_};
 ghost use lib.ListN.{length};
@@ -33,6 +32,6 @@ pub fn stored_within(table: &[f32], n: usize) -> bool
     requires { ⌜ (length (now table) ≡ SIZE) × (n ≤ WHEELS) ⌝ }
     ensures { λ r. ⌜ r ≡ storedWithin (now (table .entry)) n ⌝ }
 {
-    let e = KEPT + n * ROW;
+    let e = row_start(n);
     all_within(STORED, &table[0..e])
 }

@@ -1,4 +1,4 @@
-// The layout of the lent table: document 01, "What a vehicle keeps". Each place is counted from the one before it.
+// The layout of the lent table: document 01, "What a vehicle keeps". Each place is counted from the one before it; the last of a part is its length.
 // The kept chassis, at the start of the table.
 pub const TRANSLATION: usize = 0;
 
@@ -18,7 +18,7 @@ pub const INERTIA: usize = EFFECTIVE + 3;
 
 pub const KEPT: usize = INERTIA + 6;
 
-// A row.
+// The ray info of a wheel.
 pub const NORMAL: usize = 0;
 
 pub const POINT: usize = NORMAL + 3;
@@ -27,13 +27,36 @@ pub const LENGTH: usize = POINT + 3;
 
 pub const HARD: usize = LENGTH + 1;
 
-pub const CENTRE: usize = HARD + 3;
+pub const INFO: usize = HARD + 3;
+
+// The place of a wheel: its centre, and the world's direction and axle.
+pub const CENTRE: usize = 0;
 
 pub const WORLD_DIRECTION: usize = CENTRE + 3;
 
 pub const WORLD_AXLE: usize = WORLD_DIRECTION + 3;
 
-pub const CONNECTION: usize = WORLD_AXLE + 3;
+pub const PLACE: usize = WORLD_AXLE + 3;
+
+// A tuning, in the source's declared order.
+pub const STIFFNESS: usize = 0;
+
+pub const COMPRESSION: usize = STIFFNESS + 1;
+
+pub const DAMPING: usize = COMPRESSION + 1;
+
+pub const TRAVEL: usize = DAMPING + 1;
+
+pub const SIDEWAYS: usize = TRAVEL + 1;
+
+pub const SLIP: usize = SIDEWAYS + 1;
+
+pub const MOST: usize = SLIP + 1;
+
+pub const TUNING: usize = MOST + 1;
+
+// The settings of a wheel.
+pub const CONNECTION: usize = 0;
 
 pub const DIRECTION: usize = CONNECTION + 3;
 
@@ -41,45 +64,57 @@ pub const AXLE: usize = DIRECTION + 3;
 
 pub const REST: usize = AXLE + 3;
 
-pub const TRAVEL: usize = REST + 1;
+pub const RADIUS: usize = REST + 1;
 
-pub const RADIUS: usize = TRAVEL + 1;
+pub const TUNING_AT: usize = RADIUS + 1;
 
-pub const STIFFNESS: usize = RADIUS + 1;
+pub const SETTINGS: usize = TUNING_AT + TUNING;
 
-pub const COMPRESSION: usize = STIFFNESS + 1;
-
-pub const RELAXATION: usize = COMPRESSION + 1;
-
-pub const SLIP: usize = RELAXATION + 1;
-
-pub const SIDE_STIFFNESS: usize = SLIP + 1;
-
-pub const ROTATION: usize = SIDE_STIFFNESS + 1;
-
-pub const SPIN: usize = ROTATION + 1;
-
-pub const MOST: usize = SPIN + 1;
-
-pub const FORWARD_IMPULSE: usize = MOST + 1;
-
-pub const SIDE_IMPULSE: usize = FORWARD_IMPULSE + 1;
-
-pub const STEERING: usize = SIDE_IMPULSE + 1;
-
-pub const ENGINE: usize = STEERING + 4;
+// The controls of a wheel.
+pub const ENGINE: usize = 0;
 
 pub const BRAKE: usize = ENGINE + 1;
 
-pub const INVERSE: usize = BRAKE + 1;
+pub const STEERING: usize = BRAKE + 1;
 
-pub const VELOCITY: usize = INVERSE + 1;
+pub const CONTROLS: usize = STEERING + 4;
 
-pub const FORCE: usize = VELOCITY + 1;
+// How the ray of a wheel met the ground.
+pub const VELOCITY: usize = 0;
 
-pub const SKID: usize = FORCE + 1;
+pub const INVERSE: usize = VELOCITY + 1;
 
-pub const ROW: usize = SKID + 1;
+pub const APPROACH: usize = INVERSE + 1;
+
+// The motion of a wheel.
+pub const ROTATION: usize = 0;
+
+pub const SPIN: usize = ROTATION + 1;
+
+pub const FORCE: usize = SPIN + 1;
+
+pub const FORWARD_IMPULSE: usize = FORCE + 1;
+
+pub const SIDE_IMPULSE: usize = FORWARD_IMPULSE + 1;
+
+pub const SKID: usize = SIDE_IMPULSE + 1;
+
+pub const MOTION: usize = SKID + 1;
+
+// A row: one part after another.
+pub const INFO_AT: usize = 0;
+
+pub const PLACE_AT: usize = INFO_AT + INFO;
+
+pub const SETTINGS_AT: usize = PLACE_AT + PLACE;
+
+pub const CONTROLS_AT: usize = SETTINGS_AT + SETTINGS;
+
+pub const APPROACH_AT: usize = CONTROLS_AT + CONTROLS;
+
+pub const MOTION_AT: usize = APPROACH_AT + APPROACH;
+
+pub const ROW: usize = MOTION_AT + MOTION;
 
 // The table.
 pub const WHEELS: usize = 16;

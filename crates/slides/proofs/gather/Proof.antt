@@ -17,7 +17,7 @@ abbrev μ-loop : tie.MeasureT-loop
 
 loop-again : tie.Need-loop-again Inv-loop μ-loop
 unfolding given
-loop-again c = turning-again _ _ _ _ _ _ (c .before .before .loop .inv) (omega arith) (rw (← c .get-slide .ensures))
+loop-again c = turning-again _ _ _ _ _ _ (c .before .before .loop .inv) (omega arith) (rw (← c .get-friction .ensures))
 
 returns : tie.Need-returns Inv-loop μ-loop
 unfolding gathered eachGives

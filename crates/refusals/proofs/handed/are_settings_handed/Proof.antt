@@ -1,13 +1,15 @@
--- `refusals::handed::are_settings_handed` meets its contract: the definition, replayed as the code runs. Assumes nothing.
+-- `refusals::handed::are_settings_handed` meets its contract: the numbers in order are all tested. Assumes nothing.
+use mathlib.Core.Path.{_∙_, ap}
 use borrow.Author.Needs.{needs}
 use lib.Ieee.{ofBits}
+use Rattle.table.specs.Bounds.{allWithin, HANDED}
 use Rattle.refusals.specs.Handed.{settingsHanded}
 use Rattle.refusals.proofs.handed.are_settings_handed.Statement.{statement}
 use Rattle.refusals.proofs.handed.are_settings_handed.Tie as tie
 
 returns : tie.Need-returns
 unfolding settingsHanded ofBits
-returns c = rw (← c .all-within .ensures)
+returns c = c .all-within .ensures ∙ ap (allWithin HANDED) (c .before .before .settings-numbers .ensures)
 
 pub are-settings-handed-spec : {M : Type 1} → statement M
-are-settings-handed-spec = tie.close (tie.spec (λ c. search needs) (λ c κs. tt) returns)
+are-settings-handed-spec = tie.close (tie.spec (λ c κs. tt) (λ c. search needs) (λ c κs. tt) returns)

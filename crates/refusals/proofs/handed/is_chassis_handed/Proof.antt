@@ -1,13 +1,15 @@
--- `refusals::handed::is_chassis_handed` meets its contract: the definition, replayed as the code runs. Assumes nothing.
+-- `refusals::handed::is_chassis_handed` meets its contract: the numbers in order are all tested. Assumes nothing.
+use mathlib.Core.Path.{_∙_, ap}
 use borrow.Author.Needs.{needs}
 use lib.Ieee.{ofBits}
+use Rattle.table.specs.Bounds.{allWithin, HANDED}
 use Rattle.refusals.specs.Handed.{chassisHanded}
 use Rattle.refusals.proofs.handed.is_chassis_handed.Statement.{statement}
 use Rattle.refusals.proofs.handed.is_chassis_handed.Tie as tie
 
 returns : tie.Need-returns
 unfolding chassisHanded ofBits
-returns c = rw (← c .before .before .before .write-chassis .ensures, ← c .all-within .ensures)
+returns c = c .all-within .ensures ∙ ap (allWithin HANDED) (c .before .before .chassis-numbers .ensures)
 
 pub is-chassis-handed-spec : {M : Type 1} → statement M
-is-chassis-handed-spec = tie.close (tie.spec (λ c. search needs) (λ c κs. search needs) (λ c. search needs) (λ c κs. search needs) returns)
+is-chassis-handed-spec = tie.close (tie.spec (λ c κs. tt) (λ c. search needs) (λ c κs. tt) returns)

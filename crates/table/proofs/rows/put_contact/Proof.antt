@@ -7,9 +7,9 @@ use Rattle.table.proofs.rows.put_contact.Tie as tie
 
 returns : tie.Need-returns
 returns c =
-    let a = c .before .before .before .before .before .args in
-    put-written (λ w. withApproach (withInfo w (a .info)) (a .approach)) (a .table .now) _ (a .i) (c .before .before .write-contact .ensures)
+    let s = c .before .before .before .before in
+    let a = s .before .before .args in
+    put-written (λ w. withApproach (withInfo w (a .info)) (a .approach)) (a .table .now) _ _ (a .i) (s .row-start .ensures) (c .before .before .write-contact .ensures)
 
 pub put-contact-spec : {M : Type 1} → statement M
-put-contact-spec =
-    tie.close (tie.spec (λ c. search needs) (λ c. search needs) (λ c. search needs) (λ c. search needs) (λ c. search needs) (λ c. search needs) (λ c. search needs) (λ c κs. search needs) (λ c. search needs) returns)
+put-contact-spec = tie.close (tie.spec (λ c κs. search needs) (λ c. search needs) (λ c. search needs) (λ c. search needs) (λ c. search needs) (λ c. search needs) (λ c κs. search needs) (λ c. search needs) returns)

@@ -7,9 +7,9 @@ use Rattle.table.proofs.rows.put_friction.Tie as tie
 
 returns : tie.Need-returns
 returns c =
-    let a = c .before .before .before .before .before .args in
-    put-written (λ w. withFriction w (a .d)) (a .table .now) _ (a .i) (c .before .before .write-friction .ensures)
+    let s = c .before .before .before .before in
+    let a = s .before .before .args in
+    put-written (λ w. withFriction w (a .d)) (a .table .now) _ _ (a .i) (s .row-start .ensures) (c .before .before .write-friction .ensures)
 
 pub put-friction-spec : {M : Type 1} → statement M
-put-friction-spec =
-    tie.close (tie.spec (λ c. search needs) (λ c. search needs) (λ c. search needs) (λ c. search needs) (λ c. search needs) (λ c. search needs) (λ c. search needs) (λ c κs. search needs) (λ c. search needs) returns)
+put-friction-spec = tie.close (tie.spec (λ c κs. search needs) (λ c. search needs) (λ c. search needs) (λ c. search needs) (λ c. search needs) (λ c. search needs) (λ c κs. search needs) (λ c. search needs) returns)

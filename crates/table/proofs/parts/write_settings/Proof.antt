@@ -1,0 +1,14 @@
+-- `table::parts::write_settings` meets its contract: the numbers in order are copied over those of the part. Assumes nothing.
+use mathlib.Core.Path.{_∙_}
+use borrow.Author.Needs.{needs}
+use Rattle.table.proofs.Writes.{part-written, writes}
+use Rattle.table.proofs.parts.write_settings.Statement.{statement}
+use Rattle.table.proofs.parts.write_settings.Tie as tie
+
+returns : tie.Need-returns
+returns c =
+    let n = c .before .before .before .before .before in
+    part-written (writes .settings _) _ _ (n .before .before .pre) (c .before .before .copy .ensures ∙ n .settings-numbers .ensures)
+
+pub write-settings-spec : {M : Type 1} → statement M
+write-settings-spec = tie.close (tie.spec (λ c κs. tt) (λ c. search needs) (λ c. search needs) (λ c. search needs) (λ c. search needs) (λ c κs. search needs) (λ c. search needs) returns)

@@ -1,0 +1,15 @@
+-- `table::rows::put_controls` meets its contract: the lent row comes back written. Assumes nothing.
+use borrow.Author.Needs.{needs}
+use Rattle.wheel.specs.Parts.{withControls}
+use Rattle.table.proofs.Writes.{put-written}
+use Rattle.table.proofs.rows.put_controls.Statement.{statement}
+use Rattle.table.proofs.rows.put_controls.Tie as tie
+
+returns : tie.Need-returns
+returns c =
+    let s = c .before .before .before .before in
+    let a = s .before .before .args in
+    put-written (λ w. withControls w (a .c)) (a .table .now) _ _ (a .i) (s .row-start .ensures) (c .before .before .write-controls .ensures)
+
+pub put-controls-spec : {M : Type 1} → statement M
+put-controls-spec = tie.close (tie.spec (λ c κs. search needs) (λ c. search needs) (λ c. search needs) (λ c. search needs) (λ c. search needs) (λ c. search needs) (λ c κs. search needs) (λ c. search needs) returns)
