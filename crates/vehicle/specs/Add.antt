@@ -3,48 +3,31 @@
 use Prim.Native.Nat.{ℕ, _+_}
 use mathlib.Core.List.{List, [], _∷_}
 use lib.Dec.{ltb}
-use lib.ListN.{set}
+use lib.ListN.{set, replicate}
 use lib.Ieee.{Float}
 use Rattle.lists.specs.Refusal.{_or_, firstFailed}
 use Rattle.real.specs.Number.{zero, one}
-use Rattle.vector.specs.declared.Vector.{Vector}
 use Rattle.vector.specs.Arithmetic.{zeroV}
 use Rattle.wheel.specs.declared.Settings.{Settings}
 use Rattle.wheel.specs.declared.Wheel.{Wheel}
+use Rattle.wheel.specs.Parts.{withPlace, withSettings, withControls}
 use Rattle.table.specs.Layout as at
-use Rattle.table.specs.Rows.{putWheel}
+use Rattle.table.specs.Rows.{wheelOf, putWheel}
 use Rattle.table.specs.Bounds.{storedWithin}
 use Rattle.refusals.specs.Shape.{countOf, shapeOk}
 use Rattle.refusals.specs.Ranges.{settingsInRange}
 use Rattle.refusals.specs.Handed.{settingsHanded}
-use Rattle.vehicle.specs.declared.WheelTuning.{WheelTuning}
 use Rattle.refusals.specs.After.{After, after, settled, marked}
 
-unfoldable pub settingsFrom : Vector → Vector → Vector → Float → Float → WheelTuning → Settings
-settingsFrom connection direction axle rest radius tuning = record {
-  connection = connection;
-  direction = direction;
-  axle = axle;
-  rest = rest;
-  travel = tuning .travel;
-  radius = radius;
-  stiffness = tuning .stiffness;
-  compression = tuning .compression;
-  relaxation = tuning .damping;
-  slip = tuning .slip;
-  side = tuning .side;
-  most = tuning .most;
-}
+-- a wheel whose numbers are all 0
+unfoldable pub blankWheel : Wheel
+blankWheel = wheelOf (replicate at.ROW zero)
 
 unfoldable pub newWheel : Settings → Wheel
-newWheel s = record {
-  info = record { normal = zeroV; point = zeroV; length = zero; hard = zeroV };
-  place = record { centre = zeroV; direction = s .direction; axle = s .axle };
-  settings = s;
-  controls = record { steering = record { b = zeroV; w = one }; engine = zero; brake = zero };
-  approach = record { velocity = zero; inverse = zero };
-  motion = record { rotation = zero; spin = zero; force = zero; forward = zero; side = zero; skid = zero };
-}
+newWheel s =
+    withControls
+    (withPlace (withSettings blankWheel s) (record { centre = zeroV; direction = s .direction; axle = s .axle }))
+    (record { engine = zero; brake = zero; steering = record { b = zeroV; w = one } })
 
 unfoldable pub refuseAdd : List Float → List ℕ → Settings → ℕ
 refuseAdd t m s =

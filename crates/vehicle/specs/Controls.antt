@@ -5,9 +5,8 @@ use lib.Dec.{eqb, ltb}
 use lib.Ieee.{Float, Format}
 use Rattle.lists.specs.Pick.{pick}
 use Rattle.lists.specs.Refusal.{_or_, firstFailed}
-use Rattle.vector.specs.declared.Rotation.{Rotation}
 use Rattle.wheel.specs.declared.Controls.{Controls}
-use Rattle.wheel.specs.declared.Wheel.{Wheel}
+use Rattle.wheel.specs.Parts.{withControls}
 use Rattle.table.specs.Layout as at
 use Rattle.table.specs.Rows.{wheelAt, putWheel}
 use Rattle.table.specs.Bounds.{storedWithin}
@@ -15,12 +14,6 @@ use Rattle.refusals.specs.Shape.{countOf, markOf, shapeOk}
 use Rattle.refusals.specs.Ranges.{controlsInRange}
 use Rattle.refusals.specs.Handed.{controlsHanded}
 use Rattle.refusals.specs.After.{After, after, settled, marked}
-
-abbrev pub controlsFrom : Float → Float → Rotation → Controls
-controlsFrom engine brake steering = record { steering = steering; engine = engine; brake = brake }
-
-abbrev pub withControls : Wheel → Controls → Wheel
-withControls w c = record { info = w .info; place = w .place; settings = w .settings; controls = c; approach = w .approach; motion = w .motion }
 
 unfoldable pub unaimed : List ℕ → List ℕ
 unaimed m = pick (eqb (markOf m) at.AIMED) (marked m at.NEW) m

@@ -2,17 +2,12 @@
 use refusals::handed;
 use refusals::ranges;
 use refusals::shape;
-use table::layout::AIMED;
-use table::layout::COUNT;
-use table::layout::MARK;
-use table::layout::NEW;
-use vector::Rotation;
+use table::layout::*;
 use wheel::Controls;
-use wheel::Wheel;
 ghost use mathlib.Core.Path.{_≡_};
 ghost use lib.Ieee.{binary32};
 ghost use Rattle.refusals.specs.After.{after};
-ghost use Rattle.vehicle.specs.Controls.{withControls, refuseControls, setControls, controlsFrom};
+ghost use Rattle.vehicle.specs.Controls.{refuseControls, setControls};
 
 fn refuse_controls(table: &[f32], whole: &[u32], wheel: u32, c: Controls) -> u32
     ensures { λ r. ⌜ r ≡ refuseControls binary32 (now (table .entry)) (now (whole .entry)) wheel c ⌝ }
@@ -36,42 +31,20 @@ fn refuse_controls(table: &[f32], whole: &[u32], wheel: u32, c: Controls) -> u32
     0
 }
 
-fn with_controls(w: Wheel, c: Controls) -> Wheel
-    ensures { λ r. ⌜ r ≡ withControls w c ⌝ }
-{
-    let mut v = w;
-    v.controls = c;
-    v
-}
-
 // Sets the engine force, the brake and the steering of one wheel. The steering is a rotation in world space, kept until it is set again.
 // An aimed mark becomes new: the vehicle must be aimed again before it is driven.
-// Takes: the table and the whole numbers of a vehicle; the wheel's number; engine force; brake; steering.
+// Takes: the table and the whole numbers of a vehicle; the wheel's number; its controls: engine force, brake and steering.
 // Answers 0, or refuses with the first that holds: 1, no vehicle's table; 4, no such wheel; 2, a number handed in that is not finite or
 // above 2^20 in magnitude, or a stored one that is not finite or above 2^40; 10, a brake below 0, or a steering whose sum of squares is not
 // from 1 - 2^-10 to 1 + 2^-10.
-pub fn set_controls(
-    table: &mut [f32],
-    whole: &mut [u32],
-    wheel: u32,
-    engine: f32,
-    brake: f32,
-    steering: Rotation,
-) -> u32
-    ensures { λ r. ⌜ after r (now (table .exit)) (now (whole .exit)) ≡ setControls binary32 (now (table .entry)) (now (whole .entry)) wheel (controlsFrom engine brake steering) ⌝ }
+pub fn set_controls(table: &mut [f32], whole: &mut [u32], wheel: u32, c: Controls) -> u32
+    ensures { λ r. ⌜ after r (now (table .exit)) (now (whole .exit)) ≡ setControls binary32 (now (table .entry)) (now (whole .entry)) wheel c ⌝ }
 {
-    let c = Controls {
-        steering,
-        engine,
-        brake,
-    };
     let number = refuse_controls(&table[..], &whole[..], wheel, c);
     if number != 0 {
         return number;
     }
-    let i = wheel as usize;
-    let w = table::rows::get_wheel(&table[..], i);
-    table::rows::put_wheel(table, i, with_controls(w, c));
+    table::rows::put_controls(table, wheel as usize, c);
     if whole[MARK] == AIMED {
         whole[MARK] = NEW;
     }

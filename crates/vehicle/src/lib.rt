@@ -10,18 +10,6 @@ pub mod add; // add a wheel
 pub mod controls; // set controls
 pub mod read; // read a wheel
 
-// The numbers of the source's `WheelTuning`, in its order: suspension_stiffness, suspension_compression, suspension_damping,
-// max_suspension_travel, side_friction_stiffness, friction_slip, max_suspension_force.
-pub struct WheelTuning {
-    pub stiffness: f32,
-    pub compression: f32,
-    pub damping: f32,
-    pub travel: f32,
-    pub side: f32,
-    pub slip: f32,
-    pub most: f32,
-}
-
 // What a read answers: its number and the fifteen numbers of a wheel.
 pub struct Reading {
     pub number: u32,

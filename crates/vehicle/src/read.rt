@@ -1,13 +1,14 @@
 // Read a wheel.
 use super::Reading;
 use refusals::shape;
-use table::layout::COUNT;
-use table::layout::DRIVEN;
-use table::layout::MARK;
+use table::layout::*;
 use wheel::Wheel;
 ghost use mathlib.Core.Path.{_≡_};
 ghost use Rattle.refusals.specs.After.{after};
-ghost use Rattle.vehicle.specs.Read.{refuseRead, notRead, readingOf, readWheel};
+ghost use Rattle.vehicle.specs.Read.{refuseRead, notRead, readingOf, readingList, readWheel};
+
+// How many numbers a read gives.
+pub const READING: usize = 15;
 
 fn refuse_read(table: &[f32], whole: &[u32], wheel: u32) -> u32
     ensures { λ r. ⌜ r ≡ refuseRead (now (table .entry)) (now (whole .entry)) wheel ⌝ }
@@ -81,4 +82,27 @@ pub fn read_wheel(table: &[f32], whole: &[u32], wheel: u32) -> Reading
         return not_read(number);
     }
     reading(table::rows::get_wheel(table, wheel as usize))
+}
+
+// The results of a read, in the order of docs/STREAM.md.
+pub fn reading_numbers(r: Reading) -> [f32; READING]
+    ensures { λ x. ⌜ x ≡ readingList r ⌝ }
+{
+    [
+        r.centre.x,
+        r.centre.y,
+        r.centre.z,
+        r.direction.x,
+        r.direction.y,
+        r.direction.z,
+        r.axle.x,
+        r.axle.y,
+        r.axle.z,
+        r.length,
+        r.force,
+        r.forward,
+        r.side,
+        r.skid,
+        r.rotation,
+    ]
 }

@@ -1,11 +1,6 @@
 // Set up: makes any lent numbers a vehicle with no wheels.
 use refusals::shape;
-use table::layout::COUNT;
-use table::layout::FORWARD;
-use table::layout::MARK;
-use table::layout::NEW;
-use table::layout::SIZE;
-use table::layout::UP;
+use table::layout::*;
 ghost use mathlib.Core.Path.{_≡_};
 ghost use Rattle.refusals.specs.After.{after};
 ghost use Rattle.vehicle.specs.SetUp.{refuseSetUp, setUp};

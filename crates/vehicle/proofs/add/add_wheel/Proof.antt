@@ -12,15 +12,15 @@ use Rattle.vehicle.proofs.add.add_wheel.Statement.{statement}
 use Rattle.vehicle.proofs.add.add_wheel.Tie as tie
 
 -- what was tested, once it is not refused
-tested : (c : tie.Else1) → let a = c .before .before .before .before .before .before .before .args in AddTested (a .table .now) (a .whole .now)
+tested : (c : tie.Else1) → let a = c .before .before .before .before .before .before .args in AddTested (a .table .now) (a .whole .now)
 tested c = add-says _ _ _ (sym (c .before .refuse-add .ensures) ∙ c .if1 .left)
 
-place : (c : tie.Else1) (k : ℕ) → k < at.WHOLE → k < length (c .before .before .before .before .before .before .before .args .whole .now)
+place : (c : tie.Else1) (k : ℕ) → k < at.WHOLE → k < length (c .before .before .before .before .before .before .args .whole .now)
 place c k l = let s = tested c in omega arith
 
 returns : tie.Need-returns
 unfolding addWheel
-returns c = rw (← c .before .before .before .before .settings-from .ensures) (settled-refused _ _ _ _ _ _ _ (c .before .refuse-add .ensures) (c .if1 .taken) refl)
+returns c = settled-refused _ _ _ _ _ _ _ (c .before .refuse-add .ensures) (c .if1 .taken) refl
 
 slice-read-count : tie.Need-slice-read-count
 slice-read-count c = let r = tested (c .before) in omega arith
@@ -43,14 +43,14 @@ slice-write-whole-2 c = let l = place (c .before .before .before .before .before
 returns-2 : tie.Need-returns-2
 unfolding addWheel
 returns-2 c =
-    rw (← c .before .before .before .before .before .before .before .before .before .before .settings-from .ensures)
-    (settled-done _ _ _ _ _ _ _ (c .before .before .before .before .before .before .before .refuse-add .ensures) (c .before .before .before .before .before .before .if1 .left) (rw (c .before .before .put-wheel .ensures, c .before .before .before .new-wheel .ensures)))
+    let put = c .before .before in
+    let accepted = put .before .before .before .before in
+    settled-done _ _ _ _ _ _ _ (accepted .before .refuse-add .ensures) (accepted .if1 .left) (rw (put .put-wheel .ensures, put .before .new-wheel .ensures))
 
 pub add-wheel-spec : {M : Type 1} → statement M
 add-wheel-spec =
     tie.close
     (tie.spec
-    (λ c κs. tt)
     (λ c κs. tt)
     (λ c. search needs)
     (λ c. search needs)

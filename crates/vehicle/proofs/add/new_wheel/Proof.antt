@@ -6,7 +6,7 @@ use Rattle.vehicle.proofs.add.new_wheel.Tie as tie
 
 returns : tie.Need-returns
 unfolding newWheel ofBits
-returns c = rw (← c .before .before .zero .ensures)
+returns c = rw (← c .blank-wheel .ensures, ← c .before .before .before .zero .ensures)
 
 pub new-wheel-spec : {M : Type 1} → statement M
-new-wheel-spec = tie.close (tie.spec (λ c κs. tt) returns)
+new-wheel-spec = tie.close (tie.spec (λ c κs. tt) (λ c κs. tt) returns)

@@ -18,29 +18,34 @@ returns : tie.Need-returns
 unfolding setControls
 returns c = settled-refused _ _ _ _ _ _ _ (c .before .refuse-controls .ensures) (c .if1 .taken) refl
 
-get-wheel-requires : tie.Need-get-wheel-requires
-get-wheel-requires c κs = let r = tested (c .before) in omega arith
-
-put-wheel-requires : tie.Need-put-wheel-requires
-put-wheel-requires c κs = let r = tested (c .before .before .before .before) in omega arith
+put-controls-requires : tie.Need-put-controls-requires
+put-controls-requires c κs = let r = tested (c .before) in omega arith
 
 slice-read-if2 : tie.Need-slice-read-if2
-slice-read-if2 c = let r = tested (c .before .before .before .before .before .before .before .before) in omega arith
+slice-read-if2 c =
+    let accepted = c .before .before .before .before .before in
+    let r = tested accepted in
+    omega arith
 
 slice-write-whole : tie.Need-slice-write-whole
-slice-write-whole c = let r = tested (c .before .before .before .before .before .before .before .before .before) in omega arith
+slice-write-whole c =
+    let accepted = c .before .before .before .before .before .before in
+    let r = tested accepted in
+    omega arith
 
 returns-2 : tie.Need-returns-2
 unfolding setControls unaimed pick
 returns-2 c =
-    settled-done _ _ _ _ _ _ _ (c .before .before .before .before .before .before .before .before .before .before .refuse-controls .ensures) (c .before .before .before .before .before .before .before .before .before .if1 .left)
-    (rw (eq-eqb _ _ (c .if2 .taken), c .before .before .before .before .put-wheel .ensures, c .before .before .before .before .before .with-controls .ensures, c .before .before .before .before .before .before .before .get-wheel .ensures))
+    let put = c .before .before .before .before in
+    let accepted = put .before .before in
+    settled-done _ _ _ _ _ _ _ (accepted .before .refuse-controls .ensures) (accepted .if1 .left) (rw (eq-eqb _ _ (c .if2 .taken), put .put-controls .ensures))
 
 returns-3 : tie.Need-returns-3
 unfolding setControls unaimed pick
 returns-3 c =
-    settled-done _ _ _ _ _ _ _ (c .before .before .before .before .before .before .before .before .before .before .refuse-controls .ensures) (c .before .before .before .before .before .before .before .before .before .if1 .left)
-    (rw (ne-eqb _ _ (c .if2 .left), c .before .before .before .before .put-wheel .ensures, c .before .before .before .before .before .with-controls .ensures, c .before .before .before .before .before .before .before .get-wheel .ensures))
+    let put = c .before .before .before .before in
+    let accepted = put .before .before in
+    settled-done _ _ _ _ _ _ _ (accepted .before .refuse-controls .ensures) (accepted .if1 .left) (rw (ne-eqb _ _ (c .if2 .left), put .put-controls .ensures))
 
 pub set-controls-spec : {M : Type 1} → statement M
 set-controls-spec =
@@ -50,9 +55,7 @@ set-controls-spec =
     (λ c. search needs)
     (λ c. search needs)
     returns
-    get-wheel-requires
-    (λ c κs. tt)
-    put-wheel-requires
+    put-controls-requires
     slice-read-if2
     slice-write-whole
     (λ c. search needs)

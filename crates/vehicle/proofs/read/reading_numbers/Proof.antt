@@ -1,0 +1,12 @@
+-- `vehicle::read::reading_numbers` meets its contract: the definition, replayed as the code runs. Assumes nothing.
+use mathlib.Core.Path.{refl}
+use Rattle.vehicle.specs.Read.{readingList}
+use Rattle.vehicle.proofs.read.reading_numbers.Statement.{statement}
+use Rattle.vehicle.proofs.read.reading_numbers.Tie as tie
+
+returns : tie.Need-returns
+unfolding readingList
+returns c = refl
+
+pub reading-numbers-spec : {M : Type 1} → statement M
+reading-numbers-spec = tie.close (tie.spec returns)
