@@ -14,8 +14,9 @@ use lib.Seq.{drop-cons}
 use Rattle.lists.specs.Pick.{pick}
 use Rattle.lists.specs.Part.{paste}
 use Rattle.lines.specs.Layout.{TEN, TEN-DIGITS, HEX, HEX-DIGITS, SPACE}
-use Rattle.lines.specs.Line.{glyph, digits, placesUpTo, places, decimal, results, Puts}
-use Rattle.lines.proofs.Puts.{paste-nil, set-paste, puts-on}
+use Rattle.lines.specs.Line.{glyph, digits, placesUpTo, places, decimal, results}
+use Rattle.lists.specs.Puts.{Puts}
+use Rattle.lists.proofs.Puts.{paste-nil, set-paste, puts-on}
 
 pub length-digits : (base k n : ℕ) → length (digits base k n) ≡ k
 unfolding digits
@@ -58,7 +59,7 @@ module _ {t now : List ℕ} {at base count n left rest : ℕ} (s : Spelled t now
       let none : left ≡ 0 = omega arith in
       let place : at + 0 ≡ at = omega arith in
       let whole : count - 0 ≡ count = omega arith in
-      record { bytes = rw (none, place, whole) at (s .bytes); end = rw length-digits }
+      record { put = rw (none, place, whole) at (s .bytes); end = rw length-digits }
 
 one-place : (f m : ℕ) → m < TEN → placesUpTo f m ≡ 1
 unfolding placesUpTo pick
@@ -157,6 +158,6 @@ module _ {t now l : List ℕ} {at i next : ℕ} (s : Listed t now l at i next) w
   all-listed h =
       let none : results (drop i l) ≡ [] = rw (drop-of-length-le l h) in
       record {
-        bytes = sym (s .left ∙ rw none (paste-nil now next));
+        put = sym (s .left ∙ rw none (paste-nil now next));
         end = sym (rw (none, add-zero) at (s .end));
       }

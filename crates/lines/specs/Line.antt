@@ -1,11 +1,8 @@
 -- Document 01, "Scenario program": the lines that are printed, as bytes. Definitions only.
 use Prim.Native.Nat.{ℕ, zero, suc, _+_, _-_, _/_, _%_, _^_}
 use mathlib.Core.List.{List, [], _∷_, _++_}
-use mathlib.Core.Path.{_≡_}
 use lib.Dec.{ltb}
-use lib.ListN.{length}
 use Rattle.lists.specs.Pick.{pick}
-use Rattle.lists.specs.Part.{paste}
 use Rattle.lines.specs.Layout.{SPACE, LINE-FEED, ZERO, LETTER-A, TEN, TEN-DIGITS, HEX, HEX-DIGITS}
 
 -- the character of a digit: 0 to 9, then a to f
@@ -42,8 +39,3 @@ line code answer l = decimal code ++ (SPACE ∷ (decimal answer ++ (results l ++
 -- the first line: `vehicle 1`
 unfoldable pub title : List ℕ
 title = 118 ∷ 101 ∷ 104 ∷ 105 ∷ 99 ∷ 108 ∷ 101 ∷ SPACE ∷ 49 ∷ LINE-FEED ∷ []
-
--- a buffer with the bytes l put into it from `at` on, and the place behind them
-pub record Puts (before after : List ℕ) (at next : ℕ) (l : List ℕ) : Type 0 where
-  pub bytes : after ≡ paste before at l
-  pub end : next ≡ at + length l

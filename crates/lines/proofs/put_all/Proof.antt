@@ -2,7 +2,7 @@
 use borrow.Author.Needs.{needs}
 use Prim.Native.Nat.{_-_}
 use lib.ListN.{length}
-use Rattle.lines.proofs.Puts.{Copied, none-copied, one-copied, all-copied}
+use Rattle.lists.proofs.Puts.{Copied, none-copied, one-copied, all-copied}
 use Rattle.lines.proofs.put_all.Statement.{statement}
 use Rattle.lines.proofs.put_all.Tie as tie
 

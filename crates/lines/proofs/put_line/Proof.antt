@@ -5,7 +5,7 @@ use native.Mathlib.Omega.{arith}
 use Prim.Native.Nat.{_+_, _*_}
 use Rattle.lines.specs.Layout.{TEN-DIGITS, HEX-DIGITS, RESULTS}
 use Rattle.lines.specs.Line.{line}
-use Rattle.lines.proofs.Puts.{Near, near-start, near-more, puts-join}
+use Rattle.lists.proofs.Puts.{Near, near-start, near-more, puts-join}
 use Rattle.lines.proofs.Digits.{length-decimal, length-results}
 use Rattle.lines.proofs.put_line.Statement.{statement}
 use Rattle.lines.proofs.put_line.Tie as tie
