@@ -22,7 +22,7 @@ TEN = 10
 abbrev pub TEN-DIGITS : ℕ
 TEN-DIGITS = 10
 
--- a result: its bits, in hex
+-- a result: its bits, in hex, as many digits as 32 bits have
 abbrev pub HEX : ℕ
 HEX = 16
 

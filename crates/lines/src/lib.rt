@@ -81,10 +81,10 @@ fn put_decimal(n: u32, out: &mut [u8], at: usize) -> usize
     put_digits(n, TEN, k, out, at)
 }
 
-// Each result: a space and eight hex digits.
+// Each result: a space and its hex digits.
 fn put_results(results: &[u32], out: &mut [u8], at: usize) -> usize
     requires { ⌜ at + length (now results) * (1 + layout.HEX-DIGITS) ≤ length (now out) ⌝ }
-    ensures { λ r. ⌜ Puts (now (out .entry)) (now (out .exit)) at r (line.results (now (results .entry))) ⌝ }
+    ensures { λ r. ⌜ Puts (now (out .entry)) (now (out .exit)) at r (line.results layout.HEX-DIGITS (now (results .entry))) ⌝ }
 {
     let mut next = at;
     let mut i = 0usize;
@@ -99,7 +99,7 @@ fn put_results(results: &[u32], out: &mut [u8], at: usize) -> usize
 // The line of a code: the code and the answer with a space between, the results, and a line feed.
 pub fn put_line(code: u32, answer: u32, results: &[u32], out: &mut [u8], at: usize) -> usize
     requires { ⌜ (length (now results) ≤ layout.RESULTS) × (at + layout.LINE-BYTES ≤ length (now out)) ⌝ }
-    ensures { λ r. ⌜ Puts (now (out .entry)) (now (out .exit)) at r (line.line code answer (now (results .entry))) ⌝ }
+    ensures { λ r. ⌜ Puts (now (out .entry)) (now (out .exit)) at r (line.line layout.HEX-DIGITS code answer (now (results .entry))) ⌝ }
 {
     let coded = put_decimal(code, out, at);
     let spaced = put(SPACE, out, coded);

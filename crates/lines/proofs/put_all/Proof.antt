@@ -33,7 +33,7 @@ loop-less c = search needs
 loop-again : tie.Need-loop-again Inv-loop μ-loop
 loop-again c =
     let at = c .before in
-    one-copied (at .before .loop .inv) (at .before .before .pre) (at .loop-test .taken)
+    one-copied (at .before .loop .inv) (at .before .before .pre) _ (at .loop-test .taken)
 
 add-result : tie.Need-add-result Inv-loop μ-loop
 add-result c = search needs

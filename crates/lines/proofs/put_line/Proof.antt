@@ -44,7 +44,7 @@ listed : (c : tie.After-put-results) →
     Near (s .args .out .now) (c .put-results .last .1 .0) (s .args .at) (c .put-results .result) (0 + TEN-DIGITS + 1 + TEN-DIGITS + RESULTS * (1 + HEX-DIGITS))
 listed c =
     let s = from-code (from-space (from-answer (from-results c))) in
-    near-more (RESULTS * (1 + HEX-DIGITS)) (answered (from-results c)) (c .put-results .ensures) (omega (arith, length-results (s .args .results .now), s .pre .0)) (c .put-results .kept .1 .0)
+    near-more (RESULTS * (1 + HEX-DIGITS)) (answered (from-results c)) (c .put-results .ensures) (omega (arith, length-results HEX-DIGITS (s .args .results .now), s .pre .0)) (c .put-results .kept .1 .0)
 
 put-requires : tie.Need-put-requires
 put-requires c κs = omega (arith, coded (c .before .before .before))
