@@ -36,5 +36,9 @@ WHEEL-RESULTS = 6
 abbrev pub RESULTS : ℕ
 RESULTS = 1 + ANSWERS * WHEEL-RESULTS
 
+-- the longest line, where each result has so many hex digits
+abbrev pub lineBytes : ℕ → ℕ
+lineBytes size = TEN-DIGITS + 1 + TEN-DIGITS + RESULTS * (1 + size) + 1
+
 abbrev pub LINE-BYTES : ℕ
-LINE-BYTES = TEN-DIGITS + 1 + TEN-DIGITS + RESULTS * (1 + HEX-DIGITS) + 1
+LINE-BYTES = lineBytes HEX-DIGITS
