@@ -1,5 +1,4 @@
 -- What two layouts say of one number. In order: the counts that the stream's codes and the lent table share; how wide the numbers are. Assumes nothing.
-use Prim.Native.Nat.{ℕ}
 use mathlib.Core.Path.{_≡_, refl}
 use Rattle.table.specs.Layout as table
 use Rattle.table.specs.Handed as handed

@@ -13,7 +13,7 @@ use Rattle.lists.specs.Pick.{pick}
 use Rattle.table.specs.Layout as places
 use Rattle.stream.specs.declared.Code.{Code}
 use Rattle.stream.specs.Layout as code
-use Rattle.stream.specs.Code.{Reading, shown, readCode}
+use Rattle.stream.specs.Code.{shown, readCode}
 use Rattle.stream.proofs.Readings.{took-code}
 use Rattle.lines.specs.Layout.{lineBytes, LINE-BYTES}
 use Rattle.lists.specs.Puts.{Puts}
@@ -23,7 +23,7 @@ use Rattle.session.specs.declared.Next.{Next}
 use Rattle.session.specs.declared.Turn.{Turn}
 use Rattle.session.specs.declared.Stands.{Stands}
 use Rattle.session.specs.Program.{Car, car, padded}
-use Rattle.session.specs.Turns.{Turned, following, called, malformed, turnedBy, turnOf, Turns}
+use Rattle.session.specs.Turns.{following, called, malformed, turnedBy, turnOf, Turns}
 use Rattle.session.specs.Runs.{Ran, ran, behind, ranBy, runOn, runOf, Runs}
 use Rattle.session.proofs.Lent.{puts-within}
 

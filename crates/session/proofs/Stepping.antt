@@ -17,7 +17,7 @@ use Rattle.session.specs.Layout.{WINDOW-BYTES}
 use Rattle.session.specs.Program.{Car}
 use Rattle.session.specs.Runs.{Ran, runOf, Runs, Steps}
 use Rattle.session.proofs.Lent.{lent-front, puts-within}
-use Rattle.session.proofs.Windows.{Goes, run-goes}
+use Rattle.session.proofs.Windows.{run-goes}
 
 rest-of : (t : List ℕ) (a b : ℕ) → take (b - a) (drop a t) ≡ drop a (take b t)
 rest-of t zero b =

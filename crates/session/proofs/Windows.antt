@@ -22,7 +22,7 @@ use Rattle.session.specs.declared.Next.{Next}
 use Rattle.session.specs.declared.Stands.{Stands}
 use Rattle.session.specs.Layout.{TEXT-BYTES}
 use Rattle.session.specs.Program.{Car, car, startCar, MALFORMED, padded, printedBy, printedOn, printedFrom, printed}
-use Rattle.session.specs.Turns.{Turned, turned, following, called, malformed, turnedBy, turnOf}
+use Rattle.session.specs.Turns.{turned, following, called, malformed, turnedBy, turnOf}
 use Rattle.session.specs.Runs.{Ran, ran, behind, ranBy, runOn, runOf, printedAfter}
 use Rattle.session.specs.Served.{joined, Serving, pulled, servedBy, served, program}
 use Rattle.session.proofs.Counts.{shown-padded}

@@ -11,7 +11,7 @@ use Rattle.table.specs.Layout as at
 use Rattle.vehicle.specs.SetUp.{setUp}
 use Rattle.stream.specs.declared.Code.{Code}
 use Rattle.stream.specs.Layout as code
-use Rattle.stream.specs.Code.{Reading, shown, readCode}
+use Rattle.stream.specs.Code.{shown, readCode}
 use Rattle.lines.specs.Line.{line, title}
 use Rattle.scenario.specs.Format.{widthsOf, hexDigitsOf}
 use Rattle.perform.specs.Call.{callOf}

@@ -9,7 +9,7 @@ use Rattle.lists.specs.Pick.{pick}
 use Rattle.lists.specs.Puts.{Puts}
 use Rattle.stream.specs.declared.Code.{Code}
 use Rattle.stream.specs.Layout as code
-use Rattle.stream.specs.Code.{Reading, shown, readCode}
+use Rattle.stream.specs.Code.{shown, readCode}
 use Rattle.lines.specs.Line.{line}
 use Rattle.scenario.specs.Format.{widthsOf, hexDigitsOf}
 use Rattle.perform.specs.Call.{callOf}

@@ -16,9 +16,9 @@ use Rattle.lists.proofs.Picks.{pick-true}
 use Rattle.stream.specs.declared.Number.{Number}
 use Rattle.stream.specs.declared.Verdict.{Verdict}
 use Rattle.stream.specs.Layout.{GROUP, Widths, last, CODE-WORDS}
-use Rattle.stream.specs.Number.{isByte, hasBits, badGroup, gained, readGroups, readNumber, writeGroups, writeNumber}
+use Rattle.stream.specs.Number.{isByte, badGroup, gained, readGroups, readNumber, writeGroups, writeNumber}
 use Rattle.stream.specs.declared.Code.{Code}
-use Rattle.stream.specs.Grammar.{widthAt, start, next, verdict, reached, judge}
+use Rattle.stream.specs.Grammar.{widthAt, next, verdict, reached, judge}
 use Rattle.stream.specs.Code.{Reading, _reads_, Reader, after, readOn, readCode, writeWords, writeCode, fitting, IsCode}
 use Rattle.stream.proofs.Groups.{not-last, by-groups}
 use Rattle.stream.proofs.Outcome.{took, short-no-value, bad-no-value}

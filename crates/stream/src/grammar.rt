@@ -26,7 +26,11 @@ fn is_float(place: Place) -> bool
 pub fn width_at(place: Place) -> u32
     ensures { λ r. ⌜ r ≡ grammar.widthAt layout.WIDTHS place ⌝ }
 {
-    if is_float(place) { FLOAT_BITS } else { WHOLE_BITS }
+    if is_float(place) {
+        FLOAT_BITS
+    } else {
+        WHOLE_BITS
+    }
 }
 
 // The place of the code itself.

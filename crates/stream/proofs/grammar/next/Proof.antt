@@ -1,5 +1,5 @@
 -- `stream::grammar::next` meets its contract: the definition, replayed as the code runs. Assumes nothing.
-use mathlib.Core.Path.{_≡_, sym, _∙_}
+use mathlib.Core.Path.{sym, _∙_}
 use native.Mathlib.Omega.{arith}
 use borrow.Author.Tests.{ltb-true}
 use Rattle.lists.proofs.Picks.{picks}
