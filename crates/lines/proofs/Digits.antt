@@ -14,8 +14,9 @@ use lib.Seq.{drop-cons}
 use Rattle.lists.specs.Pick.{pick}
 use Rattle.lists.specs.Part.{paste}
 use Rattle.lines.specs.Layout.{TEN, TEN-DIGITS, HEX, HEX-DIGITS, SPACE}
-use Rattle.lines.specs.Line.{glyph, digits, placesUpTo, places, decimal, results, Puts}
-use Rattle.lines.proofs.Puts.{paste-nil, set-paste, puts-on}
+use Rattle.lines.specs.Line.{glyph, digits, placesUpTo, places, decimal, results}
+use Rattle.lists.specs.Puts.{Puts}
+use Rattle.lists.proofs.Puts.{paste-nil, set-paste, puts-on}
 
 pub length-digits : (base k n : ℕ) → length (digits base k n) ≡ k
 unfolding digits
@@ -58,7 +59,7 @@ module _ {t now : List ℕ} {at base count n left rest : ℕ} (s : Spelled t now
       let none : left ≡ 0 = omega arith in
       let place : at + 0 ≡ at = omega arith in
       let whole : count - 0 ≡ count = omega arith in
-      record { bytes = rw (none, place, whole) at (s .bytes); end = rw length-digits }
+      record { put = rw (none, place, whole) at (s .bytes); end = rw length-digits }
 
 one-place : (f m : ℕ) → m < TEN → placesUpTo f m ≡ 1
 unfolding placesUpTo pick
@@ -114,17 +115,17 @@ pub length-decimal : (n : ℕ) → length (decimal n) ≤ TEN-DIGITS
 unfolding decimal
 length-decimal n = rw length-digits (places-few n)
 
-pub length-results : (l : List ℕ) → length (results l) ≡ length l * (1 + HEX-DIGITS)
+pub length-results : (size : ℕ) (l : List ℕ) → length (results size l) ≡ length l * (1 + size)
 unfolding results
-length-results [] = refl
-length-results (w ∷ l) = rw (length-append, length-digits, length-results l) (omega arith)
+length-results size [] = omega arith
+length-results size (w ∷ l) = rw (length-append, length-digits, length-results size l) (omega arith)
 
 -- i results are put, and those that are left give what all give
 pub record Listed (before now l : List ℕ) (at i next : ℕ) : Type 0 where
   pub few : i ≤ length l
   pub same : length now ≡ length before
-  pub end : at + length (results l) ≡ next + length (results (drop i l))
-  pub left : paste before at (results l) ≡ paste now next (results (drop i l))
+  pub end : at + length (results HEX-DIGITS l) ≡ next + length (results HEX-DIGITS (drop i l))
+  pub left : paste before at (results HEX-DIGITS l) ≡ paste now next (results HEX-DIGITS (drop i l))
 
 pub none-listed : (t l : List ℕ) (at : ℕ) → Listed t t l at 0 at
 none-listed t l at = record { few = omega arith; same = refl; end = refl; left = refl }
@@ -134,17 +135,17 @@ module _ {t now l : List ℕ} {at i next : ℕ} (s : Listed t now l at i next) w
     -- a result has room
     pub result-fits : next + (1 + HEX-DIGITS) ≤ length now
     result-fits =
-        let some : 1 + HEX-DIGITS ≤ length (results (drop i l)) = rw (length-results, length-drop) (omega arith) in
-        omega (arith, s .end, s .same, length-results l)
+        let some : 1 + HEX-DIGITS ≤ length (results HEX-DIGITS (drop i l)) = rw (length-results, length-drop) (omega arith) in
+        omega (arith, s .end, s .same, length-results HEX-DIGITS l)
 
     pub one-listed : (u v : List ℕ) (a b : ℕ) → length u ≡ length now → length v ≡ length u → Puts now u next a (SPACE ∷ [])
         → Puts u v a b (digits HEX HEX-DIGITS (getD l i 0)) → Listed t v l at (i + 1) b
     unfolding results
     one-listed u v a b x y p q =
         let w = getD l i 0 in
-        let behind = results (drop (i + 1) l) in
+        let behind = results HEX-DIGITS (drop (i + 1) l) in
         let first : drop i l ≡ w ∷ drop (i + 1) l = rw add-one (drop-cons l i 0 more) in
-        let count : length (results (drop i l)) ≡ 1 + HEX-DIGITS + length behind = rw (first, length-append, length-digits) (omega arith) in
+        let count : length (results HEX-DIGITS (drop i l)) ≡ 1 + HEX-DIGITS + length behind = rw (first, length-append, length-digits) (omega arith) in
         record {
           few = omega arith;
           same = y ∙ x ∙ s .same;
@@ -152,11 +153,11 @@ module _ {t now l : List ℕ} {at i next : ℕ} (s : Listed t now l at i next) w
           left = s .left ∙ rw first (sym (puts-on q (omega (arith, result-fits, p .end)) behind ∙ puts-on p (omega (arith, result-fits)) (digits HEX HEX-DIGITS w ++ behind)));
         }
 
-  pub all-listed : length l ≤ i → Puts t now at next (results l)
+  pub all-listed : length l ≤ i → Puts t now at next (results HEX-DIGITS l)
   unfolding results
   all-listed h =
-      let none : results (drop i l) ≡ [] = rw (drop-of-length-le l h) in
+      let none : results HEX-DIGITS (drop i l) ≡ [] = rw (drop-of-length-le l h) in
       record {
-        bytes = sym (s .left ∙ rw none (paste-nil now next));
+        put = sym (s .left ∙ rw none (paste-nil now next));
         end = sym (rw (none, add-zero) at (s .end));
       }

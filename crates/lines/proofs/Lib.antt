@@ -1,3 +1,2 @@
--- Laws on bytes that are put into a buffer, and on digits.
-pub mod Puts
+-- Laws on digits.
 pub mod Digits

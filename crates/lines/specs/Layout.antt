@@ -22,7 +22,7 @@ TEN = 10
 abbrev pub TEN-DIGITS : ℕ
 TEN-DIGITS = 10
 
--- a result: its bits, in hex
+-- a result: its bits, in hex, as many digits as 32 bits have
 abbrev pub HEX : ℕ
 HEX = 16
 
@@ -36,5 +36,9 @@ WHEEL-RESULTS = 6
 abbrev pub RESULTS : ℕ
 RESULTS = 1 + ANSWERS * WHEEL-RESULTS
 
+-- the longest line, where each result has so many hex digits
+abbrev pub lineBytes : ℕ → ℕ
+lineBytes size = TEN-DIGITS + 1 + TEN-DIGITS + RESULTS * (1 + size) + 1
+
 abbrev pub LINE-BYTES : ℕ
-LINE-BYTES = TEN-DIGITS + 1 + TEN-DIGITS + RESULTS * (1 + HEX-DIGITS) + 1
+LINE-BYTES = lineBytes HEX-DIGITS

@@ -1,12 +1,9 @@
 -- Document 01, "Scenario program": the lines that are printed, as bytes. Definitions only.
 use Prim.Native.Nat.{ℕ, zero, suc, _+_, _-_, _/_, _%_, _^_}
 use mathlib.Core.List.{List, [], _∷_, _++_}
-use mathlib.Core.Path.{_≡_}
 use lib.Dec.{ltb}
-use lib.ListN.{length}
 use Rattle.lists.specs.Pick.{pick}
-use Rattle.lists.specs.Part.{paste}
-use Rattle.lines.specs.Layout.{SPACE, LINE-FEED, ZERO, LETTER-A, TEN, TEN-DIGITS, HEX, HEX-DIGITS}
+use Rattle.lines.specs.Layout.{SPACE, LINE-FEED, ZERO, LETTER-A, TEN, TEN-DIGITS, HEX}
 
 -- the character of a digit: 0 to 9, then a to f
 unfoldable pub glyph : ℕ → ℕ
@@ -30,20 +27,15 @@ places n = placesUpTo (TEN-DIGITS - 1) n
 unfoldable pub decimal : ℕ → List ℕ
 decimal n = digits TEN (places n) n
 
--- each result: a space and eight hex digits
-unfoldable pub results : List ℕ → List ℕ
-results [] = []
-results (w ∷ l) = SPACE ∷ (digits HEX HEX-DIGITS w ++ results l)
+-- each result: a space and so many hex digits
+unfoldable pub results : ℕ → List ℕ → List ℕ
+results size [] = []
+results size (w ∷ l) = SPACE ∷ (digits HEX size w ++ results size l)
 
--- the line of a code: the code and the answer with a space between, the results, and a line feed
-unfoldable pub line : ℕ → ℕ → List ℕ → List ℕ
-line code answer l = decimal code ++ (SPACE ∷ (decimal answer ++ (results l ++ (LINE-FEED ∷ []))))
+-- the line of a code: the code and the answer with a space between, the results of so many hex digits each, and a line feed
+unfoldable pub line : ℕ → ℕ → ℕ → List ℕ → List ℕ
+line size code answer l = decimal code ++ (SPACE ∷ (decimal answer ++ (results size l ++ (LINE-FEED ∷ []))))
 
 -- the first line: `vehicle 1`
 unfoldable pub title : List ℕ
 title = 118 ∷ 101 ∷ 104 ∷ 105 ∷ 99 ∷ 108 ∷ 101 ∷ SPACE ∷ 49 ∷ LINE-FEED ∷ []
-
--- a buffer with the bytes l put into it from `at` on, and the place behind them
-pub record Puts (before after : List ℕ) (at next : ℕ) (l : List ℕ) : Type 0 where
-  pub bytes : after ≡ paste before at l
-  pub end : next ≡ at + length l

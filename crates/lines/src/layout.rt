@@ -15,7 +15,7 @@ pub const TEN: u32 = 10;
 
 pub const TEN_DIGITS: usize = 10;
 
-// A result: its bits, in hex.
+// A result: its bits, in hex, as many digits as 32 bits have.
 pub const HEX: u32 = 16;
 
 pub const HEX_DIGITS: usize = 8;

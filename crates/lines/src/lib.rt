@@ -6,13 +6,14 @@ ghost use mathlib.Core.List.{[], _∷_};
 ghost use mathlib.Core.Path.{_≡_};
 ghost use Prim.Native.Nat.{_+_, _*_, _≤_, _<_};
 ghost use lib.ListN.{length};
+ghost use Rattle.lists.specs.Puts.{Puts};
 ghost use Rattle.lines.specs.Layout as layout;
 ghost use Rattle.lines.specs.Line as line;
 
 // One byte.
 fn put(byte: u8, out: &mut [u8], at: usize) -> usize
     requires { ⌜ at < length (now out) ⌝ }
-    ensures { λ r. ⌜ line.Puts (now (out .entry)) (now (out .exit)) at r (byte ∷ []) ⌝ }
+    ensures { λ r. ⌜ Puts (now (out .entry)) (now (out .exit)) at r (byte ∷ []) ⌝ }
 {
     out[at] = byte;
     at + 1
@@ -21,7 +22,7 @@ fn put(byte: u8, out: &mut [u8], at: usize) -> usize
 // All the bytes.
 fn put_all(bytes: &[u8], out: &mut [u8], at: usize) -> usize
     requires { ⌜ at + length (now bytes) ≤ length (now out) ⌝ }
-    ensures { λ r. ⌜ line.Puts (now (out .entry)) (now (out .exit)) at r (now (bytes .entry)) ⌝ }
+    ensures { λ r. ⌜ Puts (now (out .entry)) (now (out .exit)) at r (now (bytes .entry)) ⌝ }
 {
     let mut i = 0usize;
     while i < bytes.len() {
@@ -46,7 +47,7 @@ fn glyph(d: u32) -> u8
 // The last digits of n in a base, from the last to the first.
 fn put_digits(n: u32, base: u32, count: usize, out: &mut [u8], at: usize) -> usize
     requires { ⌜ (1 < base) × (base ≤ layout.HEX) × (at + count ≤ length (now out)) ⌝ }
-    ensures { λ r. ⌜ line.Puts (now (out .entry)) (now (out .exit)) at r (line.digits base count n) ⌝ }
+    ensures { λ r. ⌜ Puts (now (out .entry)) (now (out .exit)) at r (line.digits base count n) ⌝ }
 {
     let mut left = count;
     let mut rest = n;
@@ -74,16 +75,16 @@ fn places(n: u32) -> usize
 // A number in decimal.
 fn put_decimal(n: u32, out: &mut [u8], at: usize) -> usize
     requires { ⌜ at + layout.TEN-DIGITS ≤ length (now out) ⌝ }
-    ensures { λ r. ⌜ line.Puts (now (out .entry)) (now (out .exit)) at r (line.decimal n) ⌝ }
+    ensures { λ r. ⌜ Puts (now (out .entry)) (now (out .exit)) at r (line.decimal n) ⌝ }
 {
     let k = places(n);
     put_digits(n, TEN, k, out, at)
 }
 
-// Each result: a space and eight hex digits.
+// Each result: a space and its hex digits.
 fn put_results(results: &[u32], out: &mut [u8], at: usize) -> usize
     requires { ⌜ at + length (now results) * (1 + layout.HEX-DIGITS) ≤ length (now out) ⌝ }
-    ensures { λ r. ⌜ line.Puts (now (out .entry)) (now (out .exit)) at r (line.results (now (results .entry))) ⌝ }
+    ensures { λ r. ⌜ Puts (now (out .entry)) (now (out .exit)) at r (line.results layout.HEX-DIGITS (now (results .entry))) ⌝ }
 {
     let mut next = at;
     let mut i = 0usize;
@@ -98,7 +99,7 @@ fn put_results(results: &[u32], out: &mut [u8], at: usize) -> usize
 // The line of a code: the code and the answer with a space between, the results, and a line feed.
 pub fn put_line(code: u32, answer: u32, results: &[u32], out: &mut [u8], at: usize) -> usize
     requires { ⌜ (length (now results) ≤ layout.RESULTS) × (at + layout.LINE-BYTES ≤ length (now out)) ⌝ }
-    ensures { λ r. ⌜ line.Puts (now (out .entry)) (now (out .exit)) at r (line.line code answer (now (results .entry))) ⌝ }
+    ensures { λ r. ⌜ Puts (now (out .entry)) (now (out .exit)) at r (line.line layout.HEX-DIGITS code answer (now (results .entry))) ⌝ }
 {
     let coded = put_decimal(code, out, at);
     let spaced = put(SPACE, out, coded);
@@ -110,7 +111,7 @@ pub fn put_line(code: u32, answer: u32, results: &[u32], out: &mut [u8], at: usi
 // The first line.
 pub fn put_title(out: &mut [u8], at: usize) -> usize
     requires { ⌜ at + layout.LINE-BYTES ≤ length (now out) ⌝ }
-    ensures { λ r. ⌜ line.Puts (now (out .entry)) (now (out .exit)) at r line.title ⌝ }
+    ensures { λ r. ⌜ Puts (now (out .entry)) (now (out .exit)) at r line.title ⌝ }
 {
     put_all(b"vehicle 1\n", out, at)
 }

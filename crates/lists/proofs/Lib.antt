@@ -5,3 +5,4 @@ pub mod Turns
 pub mod Every
 pub mod Refusals
 pub mod Filling
+pub mod Puts

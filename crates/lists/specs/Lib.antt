@@ -3,3 +3,4 @@ pub mod Part
 pub mod Counted
 pub mod All
 pub mod Refusal
+pub mod Puts

@@ -8,6 +8,7 @@ use Rattle.real.specs.Small.{three, four, five, six, seven, eight, ten, twelve,
 use Rattle.real.specs.Root.{rootOf}
 use Rattle.wheel.specs.Suspension.{clip, lengthOf, approachOf, dampingOf, forceOf}
 use Rattle.wheel.specs.Grip.{skidOf, rescaledBy, brakedOf}
+use Rattle.stream.specs.Layout.{WIDTHS}
 use Rattle.stream.specs.Number.{writeNumber}
 
 pub record Case : Type 0 where
@@ -54,7 +55,7 @@ cases =
     ∷ (case 9 gives impulses twelve eight five asks numbers (six ∷ four ∷ half ∷ []))
     ∷ (case 10 gives impulses twelve eight zero asks numbers (zero ∷ zero ∷ zero ∷ []))
     ∷ (case 11 gives number (brakedOf three seven) asks number three)
-    ∷ (case 12 gives writeNumber (toBits binary32 one) asks (0x80 ∷ 0x80 ∷ 0x80 ∷ 0xFC ∷ 0x03 ∷ []))
+    ∷ (case 12 gives writeNumber (WIDTHS .float) (toBits binary32 one) asks (0x80 ∷ 0x80 ∷ 0x80 ∷ 0xFC ∷ 0x03 ∷ []))
     ∷ []
 
 -- every case is met

@@ -5,7 +5,7 @@ use mathlib.Core.List.{List}
 use mathlib.Core.Path.{_≡_}
 use lib.ListN.{length, take, drop}
 use lib.Seq.{take-at}
-use lib.Ieee.{Float}
+use lib.Ieee.{Float, Format}
 use Rattle.lists.specs.Part.{paste}
 use Rattle.lists.proofs.Turns.{length-listed}
 use Rattle.table.specs.Layout.{BODY}
@@ -15,9 +15,9 @@ front-of-paste : {A : Type 0} (t r : List A) (k : ℕ) → length r ≡ k → ta
 unfolding paste
 front-of-paste t r k h = take-at r (drop (length r) t) k h
 
-pub front-of-bodies : (l : List ℕ) (n : ℕ) (t u : List Float) → u ≡ paste t 0 (bodiesFrom l n) → take (n * BODY) u ≡ bodiesFrom l n
+pub front-of-bodies : (f : Format) (l : List ℕ) (n : ℕ) (t u : List Float) → u ≡ paste t 0 (bodiesFrom f l n) → take (n * BODY) u ≡ bodiesFrom f l n
 unfolding bodiesFrom
-front-of-bodies l n t u e = rw e (front-of-paste t (bodiesFrom l n) (n * BODY) (length-listed (bodyNumberFrom l) (n * BODY) 0))
+front-of-bodies f l n t u e = rw e (front-of-paste t (bodiesFrom f l n) (n * BODY) (length-listed (bodyNumberFrom f l) (n * BODY) 0))
 
 pub front-of-flags : (l : List ℕ) (n : ℕ) (t u : List Bool) → u ≡ paste t 0 (flagsFrom l n) → take n u ≡ flagsFrom l n
 unfolding flagsFrom

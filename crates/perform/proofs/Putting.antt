@@ -6,12 +6,13 @@ use native.Mathlib.Numerals.{add-one}
 use native.Mathlib.Omega.{arith}
 use lib.ListN.{length, take, drop, getD, length-append, drop-of-length-le}
 use lib.Seq.{drop-cons, getD-take, length-take-le}
+use lib.Ieee.{Format}
 use Rattle.lists.specs.Part.{paste}
 use Rattle.lists.proofs.Parts.{length-paste, paste-paste}
 use Rattle.table.specs.Rows.{vectorList}
 use Rattle.drive.specs.declared.Sight.{Sight}
-use Rattle.lines.specs.Line.{Puts}
-use Rattle.lines.proofs.Puts.{paste-nil}
+use Rattle.lists.specs.Puts.{Puts}
+use Rattle.lists.proofs.Puts.{paste-nil}
 use Rattle.scenario.specs.Results.{wordsOf}
 use Rattle.scenario.proofs.Words.{words-append}
 use Rattle.perform.specs.Call.{sightNumbers}
@@ -35,22 +36,22 @@ part-put {before} {now} {now'} {at} {next} {rest} {whole} l rest' s e p h = reco
 
 pub all-put : {before now : List ℕ} {at next : ℕ} {rest whole : List ℕ} → Putting before now at next rest whole → rest ≡ [] → Puts before now at next whole
 all-put {before} {now} {at} {next} {rest} {whole} s e = record {
-  bytes = sym (paste-nil now next) ∙ (rw e at (s .left));
+  put = sym (paste-nil now next) ∙ (rw e at (s .left));
   end = (let k : length rest ≡ 0 = ap length e in omega (arith, s .end));
 }
 
 -- ---- the sights of the first n wheels, once i of them are put
-pub sights-more : (l : List Sight) (n i : ℕ) (z : Sight) → i < n → n ≤ length l →
+pub sights-more : (f : Format) (l : List Sight) (n i : ℕ) (z : Sight) → i < n → n ≤ length l →
     let s = getD l i z in
-    wordsOf (sightNumbers (drop i (take n l))) ≡ wordsOf (vectorList (s .hard) ++ vectorList (s .ray)) ++ wordsOf (sightNumbers (drop (i + 1) (take n l)))
+    wordsOf f (sightNumbers (drop i (take n l))) ≡ wordsOf f (vectorList (s .hard) ++ vectorList (s .ray)) ++ wordsOf f (sightNumbers (drop (i + 1) (take n l)))
 unfolding sightNumbers
-sights-more l n i z h k =
+sights-more f l n i z h k =
     let long : length (take n l) ≡ n = length-take-le n l k in
     let first : drop i (take n l) ≡ getD l i z ∷ drop (i + 1) (take n l) = rw (add-one, ← getD-take n l i z h) (drop-cons (take n l) i z (omega arith)) in
     rw (first, ← words-append)
 
-pub sights-end : (l : List Sight) (n i : ℕ) → n ≤ i → n ≤ length l → wordsOf (sightNumbers (drop i (take n l))) ≡ []
+pub sights-end : (f : Format) (l : List Sight) (n i : ℕ) → n ≤ i → n ≤ length l → wordsOf f (sightNumbers (drop i (take n l))) ≡ []
 unfolding sightNumbers wordsOf
-sights-end l n i h k =
+sights-end f l n i h k =
     let none : length (take n l) ≤ i = rw (length-take-le n l k) h in
     rw (drop-of-length-le (take n l) none)

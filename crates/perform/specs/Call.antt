@@ -3,7 +3,7 @@ use Prim.Native.Nat.{ℕ, _≤_}
 use mathlib.Core.List.{List, [], _∷_, _++_}
 use mathlib.Core.Path.{_≡_}
 use lib.Dec.{eqb}
-use lib.Ieee.{Float, binary32}
+use lib.Ieee.{Float, Format}
 use lib.ListN.{length, take, replicate}
 use Rattle.lists.specs.Pick.{pick}
 use Rattle.lists.specs.Part.{paste}
@@ -21,7 +21,9 @@ use Rattle.drive.specs.declared.Aimed.{Aimed}
 use Rattle.drive.specs.declared.Driven.{Driven}
 use Rattle.drive.specs.Aim.{aimOf}
 use Rattle.drive.specs.Drive.{driveOf}
+use Rattle.stream.specs.declared.Asked.{Asked}
 use Rattle.stream.specs.Layout as code
+use Rattle.stream.specs.Grammar.{asked}
 use Rattle.scenario.specs.Decode.{numberFrom, settingsFrom, wheelFrom, controlsFrom, chassisFrom}
 use Rattle.scenario.specs.Frame.{stepFrom, bodyCountFrom, bodiesFrom, flagsFrom, answerCountFrom, answersStart, answersFrom}
 use Rattle.scenario.specs.Results.{wordsOf, flagWord}
@@ -34,15 +36,15 @@ sightNumbers [] = []
 sightNumbers (s ∷ l) = vectorList (s .hard) ++ (vectorList (s .ray) ++ sightNumbers l)
 
 -- an aim of so many wheels
-unfoldable pub aimResults : ℕ → Aimed → List ℕ
-aimResults wheels r = wordsOf (r .speed ∷ sightNumbers (take wheels (r .sights)))
+unfoldable pub aimResults : Format → ℕ → Aimed → List ℕ
+aimResults f wheels r = wordsOf f (r .speed ∷ sightNumbers (take wheels (r .sights)))
 
-unfoldable pub driveResults : Driven → List ℕ
-driveResults r = wordsOf (vectorList (r .linvel) ++ vectorList (r .angvel)) ++ (flagWord (r .wake) ∷ [])
+unfoldable pub driveResults : Format → Driven → List ℕ
+driveResults f r = wordsOf f (vectorList (r .linvel) ++ vectorList (r .angvel)) ++ (flagWord (r .wake) ∷ [])
 
-unfoldable pub readResults : Reading → List ℕ
-readResults r =
-    wordsOf
+unfoldable pub readResults : Format → Reading → List ℕ
+readResults f r =
+    wordsOf f
     (vectorList (r .centre)
     ++ vectorList (r .direction)
     ++ vectorList (r .axle)
@@ -66,41 +68,47 @@ unfoldable pub numbered : After ℕ → After Answered
 numbered x = told (λ n. n) (λ n. []) x
 
 -- ---- the call of each code
-abbrev pub addCall : List ℕ → List Float → List ℕ → After Answered
-addCall l t m = numbered (addWheel t m (settingsFrom l))
+abbrev pub addCall : Format → List ℕ → List Float → List ℕ → After Answered
+addCall f l t m = numbered (addWheel t m (settingsFrom f l))
 
-abbrev pub controlsCall : List ℕ → List Float → List ℕ → After Answered
-controlsCall l t m = numbered (setControls binary32 t m (wheelFrom l) (controlsFrom l))
+abbrev pub controlsCall : Format → List ℕ → List Float → List ℕ → After Answered
+controlsCall f l t m = numbered (setControls f t m (wheelFrom l) (controlsFrom f l))
 
-abbrev pub aimCall : List ℕ → List Float → List ℕ → After Answered
-aimCall l t m = told (λ r. r .number) (aimResults (countOf m)) (aimOf binary32 t m (chassisFrom l))
+abbrev pub aimCall : Format → List ℕ → List Float → List ℕ → After Answered
+aimCall f l t m = told (λ r. r .number) (aimResults f (countOf m)) (aimOf f t m (chassisFrom f l))
 
 -- the frame of a drive, and how many answers it has
 unfoldable pub answersOf : List ℕ → ℕ
 answersOf l = answerCountFrom l (bodyCountFrom l)
 
 -- (a list of answers has room for every wheel: nothing stands behind those that are given)
-unfoldable pub frameFrom : List ℕ → Frame
-frameFrom l =
+unfoldable pub frameFrom : Format → List ℕ → Frame
+frameFrom f l =
     let bodies = bodyCountFrom l in
-    frame (stepFrom l) (bodiesFrom l bodies) (flagsFrom l bodies) (paste (replicate code.ANSWERS Nothing) 0 (answersFrom l (answersStart bodies) (answersOf l)))
+    frame (stepFrom f l) (bodiesFrom f l bodies) (flagsFrom l bodies) (paste (replicate code.ANSWERS Nothing) 0 (answersFrom f l (answersStart bodies) (answersOf l)))
 
-abbrev pub driveCall : List ℕ → List Float → List ℕ → After Answered
-driveCall l t m = told (λ r. r .number) driveResults (driveOf binary32 t m (frameFrom l) (answersOf l))
+abbrev pub driveCall : Format → List ℕ → List Float → List ℕ → After Answered
+driveCall f l t m = told (λ r. r .number) (driveResults f) (driveOf f t m (frameFrom f l) (answersOf l))
 
-abbrev pub readCall : List ℕ → List Float → List ℕ → After Answered
-readCall l t m = told (λ r. r .number) readResults (readWheel t m (wheelFrom l))
+abbrev pub readCall : Format → List ℕ → List Float → List ℕ → After Answered
+readCall f l t m = told (λ r. r .number) (readResults f) (readWheel t m (wheelFrom l))
 
--- by the code; code 0 answers 0 and changes nothing
-unfoldable pub callOf : List ℕ → List Float → List ℕ → After Answered
-callOf l t m =
-    let c = numberFrom l 0 in
-    pick (eqb c code.ADD) (addCall l t m) (
-    pick (eqb c code.CONTROLS) (controlsCall l t m) (
-    pick (eqb c code.AIM) (aimCall l t m) (
-    pick (eqb c code.DRIVE) (driveCall l t m) (
-    pick (eqb c code.READ) (readCall l t m) (
-    after (answered 0 []) t m)))))
+-- an answer 0 that changes nothing
+abbrev pub noCall : List Float → List ℕ → After Answered
+noCall t m = after (answered 0 []) t m
+
+-- by what is asked for. An unknown code is no case of a whole code: the grammar lets none through
+unfoldable pub callFor : Format → Asked → List ℕ → List Float → List ℕ → After Answered
+callFor f Asked.End l t m = noCall t m
+callFor f Asked.Add l t m = addCall f l t m
+callFor f Asked.Controls l t m = controlsCall f l t m
+callFor f Asked.Aim l t m = aimCall f l t m
+callFor f Asked.Drive l t m = driveCall f l t m
+callFor f Asked.Read l t m = readCall f l t m
+callFor f Asked.Unknown l t m = noCall t m
+
+unfoldable pub callOf : Format → List ℕ → List Float → List ℕ → After Answered
+callOf f l t m = callFor f (asked (numberFrom l 0)) l t m
 
 -- ---- words with the counts that a well-formed drive has
 pub record Counted (l : List ℕ) : Type 0 where

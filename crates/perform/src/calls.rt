@@ -5,19 +5,19 @@ use scenario::decode;
 use vehicle::WheelTuning;
 ghost use mathlib.Core.Path.{_≡_};
 ghost use lib.ListN.{length};
-ghost use lib.Ieee.{binary32};
 ghost use Rattle.refusals.specs.After.{after};
 ghost use Rattle.vehicle.specs.Add.{addWheel};
 ghost use Rattle.vehicle.specs.Controls.{setControls};
 ghost use Rattle.stream.specs.Layout as code;
 ghost use Rattle.lines.specs.Layout as line;
+ghost use Rattle.scenario.specs.Format.{format};
 ghost use Rattle.scenario.specs.Decode.{settingsFrom, wheelFrom, controlsFrom};
 ghost use Rattle.perform.specs.Call.{readCall, Performs};
 
 // Adds the wheel of the words. Answers the number of the call.
 pub fn call_add(words: &[u32], table: &mut [f32], whole: &mut [u32]) -> u32
     requires { ⌜ length (now words) ≡ code.CODE-WORDS ⌝ }
-    ensures { λ r. ⌜ after r (now (table .exit)) (now (whole .exit)) ≡ addWheel (now (table .entry)) (now (whole .entry)) (settingsFrom (now (words .entry))) ⌝ }
+    ensures { λ r. ⌜ after r (now (table .exit)) (now (whole .exit)) ≡ addWheel (now (table .entry)) (now (whole .entry)) (settingsFrom format (now (words .entry))) ⌝ }
 {
     let s = decode::settings_from(words);
     let connection = s.connection;
@@ -47,7 +47,7 @@ pub fn call_add(words: &[u32], table: &mut [f32], whole: &mut [u32]) -> u32
 // Sets the controls of the words. Answers the number of the call.
 pub fn call_controls(words: &[u32], table: &mut [f32], whole: &mut [u32]) -> u32
     requires { ⌜ length (now words) ≡ code.CODE-WORDS ⌝ }
-    ensures { λ r. ⌜ after r (now (table .exit)) (now (whole .exit)) ≡ setControls binary32 (now (table .entry)) (now (whole .entry)) (wheelFrom (now (words .entry))) (controlsFrom (now (words .entry))) ⌝ }
+    ensures { λ r. ⌜ after r (now (table .exit)) (now (whole .exit)) ≡ setControls format (now (table .entry)) (now (whole .entry)) (wheelFrom (now (words .entry))) (controlsFrom format (now (words .entry))) ⌝ }
 {
     let wheel = decode::wheel_from(words);
     let c = decode::controls_from(words);
@@ -58,7 +58,7 @@ pub fn call_controls(words: &[u32], table: &mut [f32], whole: &mut [u32]) -> u32
 // Reads the wheel that the words name; if accepted, its numbers go into the results.
 pub fn call_read(words: &[u32], table: &[f32], whole: &[u32], results: &mut [u32]) -> Answer
     requires { ⌜ (length (now words) ≡ code.CODE-WORDS) × (length (now results) ≡ line.RESULTS) ⌝ }
-    ensures { λ r. ⌜ Performs (readCall (now (words .entry)) (now (table .entry)) (now (whole .entry))) r (now (results .entry)) (now (results .exit)) (now (table .entry)) (now (whole .entry)) ⌝ }
+    ensures { λ r. ⌜ Performs (readCall format (now (words .entry)) (now (table .entry)) (now (whole .entry))) r (now (results .entry)) (now (results .exit)) (now (table .entry)) (now (whole .entry)) ⌝ }
 {
     let wheel = decode::wheel_from(words);
     let r = vehicle::read::read_wheel(table, whole, wheel);

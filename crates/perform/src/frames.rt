@@ -10,13 +10,13 @@ use table::layout;
 use table::layout::COUNT;
 ghost use mathlib.Core.Path.{_≡_};
 ghost use lib.ListN.{length};
-ghost use lib.Ieee.{binary32};
 ghost use Rattle.table.specs.Layout as at;
 ghost use Rattle.refusals.specs.After.{after};
 ghost use Rattle.passes.specs.Frame.{frame};
 ghost use Rattle.drive.specs.Drive.{driveOf};
 ghost use Rattle.stream.specs.Layout as code;
 ghost use Rattle.lines.specs.Layout as line;
+ghost use Rattle.scenario.specs.Format.{format};
 ghost use Rattle.scenario.specs.Frame.{stepFrom};
 ghost use Rattle.perform.specs.Call.{frameFrom, answersOf, aimCall, driveCall, Counted, Performs};
 
@@ -26,7 +26,7 @@ const BODY_NUMBERS: usize = layout::BODIES * layout::BODY;
 // Aims with the chassis of the words; if accepted, the speed and the rays go into the results.
 pub fn call_aim(words: &[u32], table: &mut [f32], whole: &mut [u32], results: &mut [u32]) -> Answer
     requires { ⌜ (length (now words) ≡ code.CODE-WORDS) × (length (now whole) ≡ at.WHOLE) × (length (now results) ≡ line.RESULTS) ⌝ }
-    ensures { λ r. ⌜ Performs (aimCall (now (words .entry)) (now (table .entry)) (now (whole .entry))) r (now (results .entry)) (now (results .exit)) (now (table .exit)) (now (whole .exit)) ⌝ }
+    ensures { λ r. ⌜ Performs (aimCall format (now (words .entry)) (now (table .entry)) (now (whole .entry))) r (now (results .entry)) (now (results .exit)) (now (table .exit)) (now (whole .exit)) ⌝ }
 {
     let c = decode::chassis_from(words);
     let n = whole[COUNT];
@@ -48,7 +48,7 @@ fn drive_on(
     flags: &[bool],
 ) -> Driven
     requires { ⌜ (length (now words) ≡ code.CODE-WORDS) × Counted (now words) ⌝ }
-    ensures { λ r. ⌜ after r (now (table .exit)) (now (whole .exit)) ≡ driveOf binary32 (now (table .entry)) (now (whole .entry)) (frame (stepFrom (now (words .entry))) (now (bodies .entry)) (now (flags .entry)) (frameFrom (now (words .entry)) .answers)) (answersOf (now (words .entry))) ⌝ }
+    ensures { λ r. ⌜ after r (now (table .exit)) (now (whole .exit)) ≡ driveOf format (now (table .entry)) (now (whole .entry)) (frame (stepFrom format (now (words .entry))) (now (bodies .entry)) (now (flags .entry)) (frameFrom format (now (words .entry)) .answers)) (answersOf (now (words .entry))) ⌝ }
 {
     let dt = frame::step_from(words);
     let nb = frame::body_count_from(words) as usize;
@@ -60,7 +60,7 @@ fn drive_on(
 // Drives with the frame of the words.
 fn drive_frame(words: &[u32], table: &mut [f32], whole: &mut [u32]) -> Driven
     requires { ⌜ (length (now words) ≡ code.CODE-WORDS) × Counted (now words) ⌝ }
-    ensures { λ r. ⌜ after r (now (table .exit)) (now (whole .exit)) ≡ driveOf binary32 (now (table .entry)) (now (whole .entry)) (frameFrom (now (words .entry))) (answersOf (now (words .entry))) ⌝ }
+    ensures { λ r. ⌜ after r (now (table .exit)) (now (whole .exit)) ≡ driveOf format (now (table .entry)) (now (whole .entry)) (frameFrom format (now (words .entry))) (answersOf (now (words .entry))) ⌝ }
 {
     let nb = frame::body_count_from(words) as usize;
     let mut bodies = [0.0; BODY_NUMBERS];
@@ -79,7 +79,7 @@ pub fn call_drive(
     results: &mut [u32],
 ) -> Answer
     requires { ⌜ (length (now words) ≡ code.CODE-WORDS) × (length (now results) ≡ line.RESULTS) × Counted (now words) ⌝ }
-    ensures { λ r. ⌜ Performs (driveCall (now (words .entry)) (now (table .entry)) (now (whole .entry))) r (now (results .entry)) (now (results .exit)) (now (table .exit)) (now (whole .exit)) ⌝ }
+    ensures { λ r. ⌜ Performs (driveCall format (now (words .entry)) (now (table .entry)) (now (whole .entry))) r (now (results .entry)) (now (results .exit)) (now (table .exit)) (now (whole .exit)) ⌝ }
 {
     let r = drive_frame(words, table, whole);
     let number = r.number;

@@ -10,10 +10,11 @@ ghost use mathlib.Core.List.{_++_};
 ghost use Prim.Native.Nat.{_+_, _≤_};
 ghost use lib.ListN.{length, take};
 ghost use Rattle.lists.specs.Part.{paste};
+ghost use Rattle.lists.specs.Puts.{Puts};
 ghost use Rattle.table.specs.Layout as at;
 ghost use Rattle.table.specs.Rows.{vectorList};
 ghost use Rattle.lines.specs.Layout as line;
-ghost use Rattle.lines.specs.Line.{Puts};
+ghost use Rattle.scenario.specs.Format.{format};
 ghost use Rattle.scenario.specs.Results.{wordsOf};
 ghost use Rattle.perform.specs.Call.{sightNumbers, aimResults, driveResults, readResults};
 
@@ -25,7 +26,7 @@ const READING: usize = 15;
 // Where a wheel's ray starts, and the ray, from word a on.
 fn put_sight(words: &mut [u32], a: usize, s: Sight)
     requires { ⌜ a + line.WHEEL-RESULTS ≤ length (now words) ⌝ }
-    ensures { λ _. ⌜ now (words .exit) ≡ paste (now (words .entry)) a (wordsOf (vectorList (s .hard) ++ vectorList (s .ray))) ⌝ }
+    ensures { λ _. ⌜ now (words .exit) ≡ paste (now (words .entry)) a (wordsOf format (vectorList (s .hard) ++ vectorList (s .ray))) ⌝ }
 {
     let h = s.hard;
     let r = s.ray;
@@ -35,7 +36,7 @@ fn put_sight(words: &mut [u32], a: usize, s: Sight)
 // A sight for each of n wheels, behind the speed.
 fn put_sights(words: &mut [u32], n: usize, sights: [Sight; 16]) -> usize
     requires { ⌜ (length (now words) ≡ line.RESULTS) × (n ≤ at.WHEELS) ⌝ }
-    ensures { λ k. ⌜ Puts (now (words .entry)) (now (words .exit)) 1 k (wordsOf (sightNumbers (take n sights))) ⌝ }
+    ensures { λ k. ⌜ Puts (now (words .entry)) (now (words .exit)) 1 k (wordsOf format (sightNumbers (take n sights))) ⌝ }
 {
     let mut a = 1usize;
     let mut i = 0usize;
@@ -51,7 +52,7 @@ fn put_sights(words: &mut [u32], n: usize, sights: [Sight; 16]) -> usize
 // The signed speed, and a sight for each of n wheels.
 pub fn put_aimed(words: &mut [u32], n: usize, r: Aimed) -> usize
     requires { ⌜ (length (now words) ≡ line.RESULTS) × (n ≤ at.WHEELS) ⌝ }
-    ensures { λ k. ⌜ Puts (now (words .entry)) (now (words .exit)) 0 k (aimResults n r) ⌝ }
+    ensures { λ k. ⌜ Puts (now (words .entry)) (now (words .exit)) 0 k (aimResults format n r) ⌝ }
 {
     let sights = r.sights;
     results::put_float(words, 0, r.speed);
@@ -61,7 +62,7 @@ pub fn put_aimed(words: &mut [u32], n: usize, r: Aimed) -> usize
 // The six velocities, and the wake flag.
 pub fn put_driven(words: &mut [u32], r: Driven) -> usize
     requires { ⌜ length (now words) ≡ line.RESULTS ⌝ }
-    ensures { λ k. ⌜ Puts (now (words .entry)) (now (words .exit)) 0 k (driveResults r) ⌝ }
+    ensures { λ k. ⌜ Puts (now (words .entry)) (now (words .exit)) 0 k (driveResults format r) ⌝ }
 {
     let v = r.linvel;
     let w = r.angvel;
@@ -73,7 +74,7 @@ pub fn put_driven(words: &mut [u32], r: Driven) -> usize
 // The numbers of a wheel.
 pub fn put_reading(words: &mut [u32], r: Reading) -> usize
     requires { ⌜ length (now words) ≡ line.RESULTS ⌝ }
-    ensures { λ k. ⌜ Puts (now (words .entry)) (now (words .exit)) 0 k (readResults r) ⌝ }
+    ensures { λ k. ⌜ Puts (now (words .entry)) (now (words .exit)) 0 k (readResults format r) ⌝ }
 {
     let c = r.centre;
     let d = r.direction;

@@ -6,6 +6,7 @@ use mathlib.Core.Path.{_≡_, refl, ap}
 use native.Mathlib.Omega.{arith}
 use lib.Dec.{eqb}
 use lib.ListN.{length, getD}
+use lib.Ieee.{Format}
 use Rattle.lists.specs.Pick.{pick}
 use Rattle.stream.specs.Layout as code
 use Rattle.scenario.specs.Layout as at
@@ -21,24 +22,24 @@ answerWords-le kind = go (eqb kind code.HIT) (eqb kind code.HIT-UP)
     go false true = omega arith
     go false false = omega arith
 
-pub length-answers : (l : List ℕ) (a n : ℕ) → length (answersFrom l a n) ≡ n
+pub length-answers : (f : Format) (l : List ℕ) (a n : ℕ) → length (answersFrom f l a n) ≡ n
 unfolding answersFrom
-length-answers l a zero = refl
-length-answers l a (suc n) = ap suc (length-answers l (a + answerWords (numberFrom l a)) n)
+length-answers f l a zero = refl
+length-answers f l a (suc n) = ap suc (length-answers f l (a + answerWords (numberFrom l a)) n)
 
-pub answers-more : (l : List ℕ) (a n i : ℕ) → i < n → answersFrom l a (n - i) ≡ answerFrom l a ∷ answersFrom l (a + answerWords (getD l a 0)) (n - (i + 1))
+pub answers-more : (f : Format) (l : List ℕ) (a n i : ℕ) → i < n → answersFrom f l a (n - i) ≡ answerFrom f l a ∷ answersFrom f l (a + answerWords (getD l a 0)) (n - (i + 1))
 unfolding answersFrom numberFrom
-answers-more l a n i h =
+answers-more f l a n i h =
     let k : n - i ≡ suc (n - (i + 1)) = omega arith in
     rw k
 
-pub answers-end : (l : List ℕ) (a n i : ℕ) → n ≤ i → answersFrom l a (n - i) ≡ []
+pub answers-end : (f : Format) (l : List ℕ) (a n i : ℕ) → n ≤ i → answersFrom f l a (n - i) ≡ []
 unfolding answersFrom
-answers-end l a n i h =
+answers-end f l a n i h =
     let k : n - i ≡ 0 = omega arith in
     rw k
 
-pub answers-start : (l : List ℕ) (a n : ℕ) → answersFrom l a (n - 0) ≡ answersFrom l a n
-answers-start l a n =
+pub answers-start : (f : Format) (l : List ℕ) (a n : ℕ) → answersFrom f l a (n - 0) ≡ answersFrom f l a n
+answers-start f l a n =
     let k : n - 0 ≡ n = omega arith in
     rw k

@@ -2,3 +2,4 @@
 pub mod Patterns
 pub mod Answers
 pub mod Words
+pub mod Tied

@@ -1,10 +1,9 @@
--- Where each field of a scenario code stands among its words: the field order of docs/STREAM.md. Word 0 is the code. Each place is a named constant, counted from the one before it. How many words a field has, and how many fields there are at most, the stream's layout says. Definitions only.
+-- Where each field of a scenario code stands among its words: the field order of docs/STREAM.md. Word 0 is the code. Each place is a named constant, counted from the one before it. How many floats a field has, and how many fields there are at most, the stream's layout says. Definitions only.
 use Prim.Native.Nat.{ℕ, _+_, _*_}
-use Rattle.table.specs.Layout as table
 use Rattle.table.specs.Handed as handed
 use Rattle.stream.specs.Layout as code
 
--- ---- the first field
+-- ---- the first field: that of an aim is the chassis, in the order in which the table keeps it
 abbrev pub FIRST : ℕ
 FIRST = 1
 
@@ -58,31 +57,6 @@ BRAKE = WHEEL + 1 + handed.BRAKE
 abbrev pub STEERING : ℕ
 STEERING = WHEEL + 1 + handed.STEERING
 
--- ---- an aim: the chassis, in the order in which the table keeps it
-abbrev pub TRANSLATION : ℕ
-TRANSLATION = FIRST + table.TRANSLATION
-
-abbrev pub ORIENTATION : ℕ
-ORIENTATION = FIRST + table.ORIENTATION
-
-abbrev pub MASS-CENTRE : ℕ
-MASS-CENTRE = FIRST + table.MASS-CENTRE
-
-abbrev pub LINVEL : ℕ
-LINVEL = FIRST + table.LINVEL
-
-abbrev pub ANGVEL : ℕ
-ANGVEL = FIRST + table.ANGVEL
-
-abbrev pub INVMASS : ℕ
-INVMASS = FIRST + table.INVMASS
-
-abbrev pub EFFECTIVE : ℕ
-EFFECTIVE = FIRST + table.EFFECTIVE
-
-abbrev pub INERTIA : ℕ
-INERTIA = FIRST + table.INERTIA
-
 -- ---- a drive: the step, the number of bodies, and the bodies, each a lent body's numbers and its flag
 abbrev pub STEP : ℕ
 STEP = FIRST
@@ -94,7 +68,7 @@ abbrev pub BODIES : ℕ
 BODIES = BODY-COUNT + 1
 
 abbrev pub FLAG : ℕ
-FLAG = code.BODY-WORDS
+FLAG = code.BODY-FLOATS
 
 abbrev pub BODY-WORDS : ℕ
 BODY-WORDS = FLAG + 1
@@ -110,7 +84,7 @@ abbrev pub HIT-BODY : ℕ
 HIT-BODY = NORMAL + 3
 
 abbrev pub HIT-WORDS : ℕ
-HIT-WORDS = 1 + code.HIT-WORDS
+HIT-WORDS = 1 + code.HIT-FLOATS + 1
 
 abbrev pub UPWARD : ℕ
 UPWARD = NORMAL + 3
@@ -119,7 +93,7 @@ abbrev pub HIT-UP-BODY : ℕ
 HIT-UP-BODY = UPWARD + 3
 
 abbrev pub HIT-UP-WORDS : ℕ
-HIT-UP-WORDS = 1 + code.HIT-UP-WORDS
+HIT-UP-WORDS = 1 + code.HIT-UP-FLOATS + 1
 
 -- where the answers start at the latest: behind every body
 abbrev pub LAST-ANSWERS : ℕ

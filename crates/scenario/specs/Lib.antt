@@ -1,3 +1,4 @@
+pub mod Format
 pub mod Layout
 pub mod Decode
 pub mod Frame

@@ -2,12 +2,12 @@
 use Prim.Native.Nat.{ℕ}
 use mathlib.Core.Bool.{Bool}
 use mathlib.Core.List.{List, [], _∷_}
-use lib.Ieee.{Float, binary32, toBits}
+use lib.Ieee.{Float, Format, toBits}
 use Rattle.lists.specs.Pick.{pick}
 
-unfoldable pub wordsOf : List Float → List ℕ
-wordsOf [] = []
-wordsOf (x ∷ l) = toBits binary32 x ∷ wordsOf l
+unfoldable pub wordsOf : Format → List Float → List ℕ
+wordsOf f [] = []
+wordsOf f (x ∷ l) = toBits f x ∷ wordsOf f l
 
 unfoldable pub flagWord : Bool → ℕ
 flagWord b = pick b 1 0

@@ -1,24 +1,24 @@
 // The fields of a scenario code, read from its words.
 use super::bits;
 use super::layout::*;
-use body::Body;
 use body::Chassis;
-use vector::Inertia;
-use vector::Pose;
+use table::layout::KEPT;
+use table::rows;
 use vector::Rotation;
 use vector::Vector;
 use wheel::Controls;
 use wheel::Settings;
 ghost use mathlib.Core.Path.{_≡_};
-ghost use Prim.Native.Nat.{_+_, _<_};
+ghost use Prim.Native.Nat.{_+_, _<_, _≤_};
 ghost use lib.ListN.{length};
 ghost use Rattle.stream.specs.Layout as code;
-ghost use Rattle.scenario.specs.Decode.{floatFrom, vectorFrom, rotationFrom, inertiaFrom, settingsFrom, wheelFrom, controlsFrom, chassisFrom};
+ghost use Rattle.scenario.specs.Format.{format};
+ghost use Rattle.scenario.specs.Decode.{floatFrom, floatsFrom, vectorFrom, rotationFrom, settingsFrom, wheelFrom, controlsFrom, chassisFrom};
 
 // The float that stands at a.
 pub fn float_from(words: &[u32], a: usize) -> f32
     requires { ⌜ a < length (now words) ⌝ }
-    ensures { λ r. ⌜ r ≡ floatFrom (now (words .entry)) a ⌝ }
+    ensures { λ r. ⌜ r ≡ floatFrom format (now (words .entry)) a ⌝ }
 {
     let bits = words[a];
     bits::float_of(bits)
@@ -26,7 +26,7 @@ pub fn float_from(words: &[u32], a: usize) -> f32
 
 pub fn vector_from(words: &[u32], a: usize) -> Vector
     requires { ⌜ a + 2 < length (now words) ⌝ }
-    ensures { λ r. ⌜ r ≡ vectorFrom (now (words .entry)) a ⌝ }
+    ensures { λ r. ⌜ r ≡ vectorFrom format (now (words .entry)) a ⌝ }
 {
     let x = float_from(words, a);
     let y = float_from(words, a + 1);
@@ -36,37 +36,29 @@ pub fn vector_from(words: &[u32], a: usize) -> Vector
 
 pub fn rotation_from(words: &[u32], a: usize) -> Rotation
     requires { ⌜ a + 3 < length (now words) ⌝ }
-    ensures { λ r. ⌜ r ≡ rotationFrom (now (words .entry)) a ⌝ }
+    ensures { λ r. ⌜ r ≡ rotationFrom format (now (words .entry)) a ⌝ }
 {
     let b = vector_from(words, a);
     let w = float_from(words, a + 3);
     Rotation { b, w }
 }
 
-pub fn inertia_from(words: &[u32], a: usize) -> Inertia
-    requires { ⌜ a + 5 < length (now words) ⌝ }
-    ensures { λ r. ⌜ r ≡ inertiaFrom (now (words .entry)) a ⌝ }
+// Fills the lent numbers with the floats from a on.
+fn floats_from(words: &[u32], a: usize, numbers: &mut [f32])
+    requires { ⌜ a + length (now numbers) ≤ length (now words) ⌝ }
+    ensures { λ _. ⌜ now (numbers .exit) ≡ floatsFrom format (now (words .entry)) a (length (now (numbers .entry))) ⌝ }
 {
-    let xx = float_from(words, a);
-    let xy = float_from(words, a + 1);
-    let xz = float_from(words, a + 2);
-    let yy = float_from(words, a + 3);
-    let yz = float_from(words, a + 4);
-    let zz = float_from(words, a + 5);
-    Inertia {
-        xx,
-        xy,
-        xz,
-        yy,
-        yz,
-        zz,
+    let mut i = 0usize;
+    while i < numbers.len() {
+        numbers[i] = float_from(words, a + i);
+        i += 1usize;
     }
 }
 
 // The settings of an add.
 pub fn settings_from(words: &[u32]) -> Settings
     requires { ⌜ length (now words) ≡ code.CODE-WORDS ⌝ }
-    ensures { λ r. ⌜ r ≡ settingsFrom (now (words .entry)) ⌝ }
+    ensures { λ r. ⌜ r ≡ settingsFrom format (now (words .entry)) ⌝ }
 {
     Settings {
         connection: vector_from(words, CONNECTION),
@@ -94,7 +86,7 @@ pub fn wheel_from(words: &[u32]) -> u32
 
 pub fn controls_from(words: &[u32]) -> Controls
     requires { ⌜ length (now words) ≡ code.CODE-WORDS ⌝ }
-    ensures { λ r. ⌜ r ≡ controlsFrom (now (words .entry)) ⌝ }
+    ensures { λ r. ⌜ r ≡ controlsFrom format (now (words .entry)) ⌝ }
 {
     Controls {
         steering: rotation_from(words, STEERING),
@@ -106,28 +98,9 @@ pub fn controls_from(words: &[u32]) -> Controls
 // The chassis of an aim.
 pub fn chassis_from(words: &[u32]) -> Chassis
     requires { ⌜ length (now words) ≡ code.CODE-WORDS ⌝ }
-    ensures { λ r. ⌜ r ≡ chassisFrom (now (words .entry)) ⌝ }
+    ensures { λ r. ⌜ r ≡ chassisFrom format (now (words .entry)) ⌝ }
 {
-    let translation = vector_from(words, TRANSLATION);
-    let rotation = rotation_from(words, ORIENTATION);
-    let centre = vector_from(words, MASS_CENTRE);
-    let linvel = vector_from(words, LINVEL);
-    let angvel = vector_from(words, ANGVEL);
-    let invmass = float_from(words, INVMASS);
-    let inertia = inertia_from(words, INERTIA);
-    let effective = vector_from(words, EFFECTIVE);
-    Chassis {
-        pose: Pose {
-            translation,
-            rotation,
-        },
-        body: Body {
-            centre,
-            linvel,
-            angvel,
-            invmass,
-            inertia,
-        },
-        effective,
-    }
+    let mut numbers = [0.0; KEPT];
+    floats_from(words, FIRST, &mut numbers);
+    rows::read_chassis(&numbers)
 }

@@ -14,11 +14,12 @@ ghost use Rattle.wheel.specs.declared.RayAnswer.the-variants.{Nothing};
 ghost use Rattle.table.specs.Layout as table;
 ghost use Rattle.stream.specs.Layout as code;
 ghost use Rattle.scenario.specs.Layout as at;
+ghost use Rattle.scenario.specs.Format.{format};
 ghost use Rattle.scenario.specs.Frame.{stepFrom, bodyCountFrom, bodyNumberFrom, bodiesFrom, flagFrom, flagsFrom, answerCountFrom, hitFrom, hitUpFrom, answerFrom, answerWords, answersFrom};
 
 pub fn step_from(words: &[u32]) -> f32
     requires { ⌜ length (now words) ≡ code.CODE-WORDS ⌝ }
-    ensures { λ r. ⌜ r ≡ stepFrom (now (words .entry)) ⌝ }
+    ensures { λ r. ⌜ r ≡ stepFrom format (now (words .entry)) ⌝ }
 {
     decode::float_from(words, STEP)
 }
@@ -33,7 +34,7 @@ pub fn body_count_from(words: &[u32]) -> u32
 // Number k of the bodies as they are lent.
 pub fn body_number_from(words: &[u32], k: usize) -> f32
     requires { ⌜ (length (now words) ≡ code.CODE-WORDS) × (k < code.BODIES * table.BODY) ⌝ }
-    ensures { λ r. ⌜ r ≡ bodyNumberFrom (now (words .entry)) k ⌝ }
+    ensures { λ r. ⌜ r ≡ bodyNumberFrom format (now (words .entry)) k ⌝ }
 {
     decode::float_from(words, BODIES + k / BODY * BODY_WORDS + k % BODY)
 }
@@ -55,7 +56,7 @@ pub fn answer_count_from(words: &[u32], bodies: usize) -> u32
 
 fn hit_from(words: &[u32], a: usize) -> RayAnswer
     requires { ⌜ a + at.HIT-WORDS ≤ length (now words) ⌝ }
-    ensures { λ r. ⌜ r ≡ hitFrom (now (words .entry)) a ⌝ }
+    ensures { λ r. ⌜ r ≡ hitFrom format (now (words .entry)) a ⌝ }
 {
     let time = decode::float_from(words, a + TIME);
     let normal = decode::vector_from(words, a + NORMAL);
@@ -64,7 +65,7 @@ fn hit_from(words: &[u32], a: usize) -> RayAnswer
 
 fn hit_up_from(words: &[u32], a: usize) -> RayAnswer
     requires { ⌜ a + at.HIT-UP-WORDS ≤ length (now words) ⌝ }
-    ensures { λ r. ⌜ r ≡ hitUpFrom (now (words .entry)) a ⌝ }
+    ensures { λ r. ⌜ r ≡ hitUpFrom format (now (words .entry)) a ⌝ }
 {
     let time = decode::float_from(words, a + TIME);
     let normal = decode::vector_from(words, a + NORMAL);
@@ -75,7 +76,7 @@ fn hit_up_from(words: &[u32], a: usize) -> RayAnswer
 // The answer at a, by its kind.
 fn answer_from(words: &[u32], a: usize) -> RayAnswer
     requires { ⌜ a + at.HIT-UP-WORDS ≤ length (now words) ⌝ }
-    ensures { λ r. ⌜ r ≡ answerFrom (now (words .entry)) a ⌝ }
+    ensures { λ r. ⌜ r ≡ answerFrom format (now (words .entry)) a ⌝ }
 {
     let kind = words[a];
     if kind == HIT {
@@ -103,7 +104,7 @@ fn answer_words(kind: u32) -> usize
 // Fills the lent bodies with the numbers of a drive's bodies.
 pub fn decode_bodies(words: &[u32], nb: usize, bodies: &mut [f32])
     requires { ⌜ (length (now words) ≡ code.CODE-WORDS) × (nb ≤ code.BODIES) × (nb * table.BODY ≤ length (now bodies)) ⌝ }
-    ensures { λ _. ⌜ now (bodies .exit) ≡ paste (now (bodies .entry)) 0 (bodiesFrom (now (words .entry)) nb) ⌝ }
+    ensures { λ _. ⌜ now (bodies .exit) ≡ paste (now (bodies .entry)) 0 (bodiesFrom format (now (words .entry)) nb) ⌝ }
 {
     let most = nb * BODY;
     let mut k = 0usize;
@@ -128,7 +129,7 @@ pub fn decode_flags(words: &[u32], nb: usize, flags: &mut [bool])
 // A drive's answers from a word on, and nothing for the wheels after them.
 pub fn decode_answers(words: &[u32], from: usize, na: usize) -> [RayAnswer; 16]
     requires { ⌜ (length (now words) ≡ code.CODE-WORDS) × (from ≤ at.LAST-ANSWERS) × (na ≤ code.ANSWERS) ⌝ }
-    ensures { λ r. ⌜ r ≡ paste (replicate code.ANSWERS Nothing) 0 (answersFrom (now (words .entry)) from na) ⌝ }
+    ensures { λ r. ⌜ r ≡ paste (replicate code.ANSWERS Nothing) 0 (answersFrom format (now (words .entry)) from na) ⌝ }
 {
     let mut answers = [RayAnswer::Nothing; 16];
     let mut a = from;

@@ -1,9 +1,8 @@
-// Where each field of a scenario code stands among its words: the field order of docs/STREAM.md. Word 0 is the code, and each place is counted from the one before it. How many words a field has, and how many fields there are at most, the stream's layout says.
+// Where each field of a scenario code stands among its words: the field order of docs/STREAM.md. Word 0 is the code, and each place is counted from the one before it. How many floats a field has, and how many fields there are at most, the stream's layout says.
 use stream::layout as code;
 use table::handed;
-use table::layout;
 
-// The first field.
+// The first field: that of an aim is the chassis, in the order in which the table keeps it.
 pub const FIRST: usize = 1;
 
 // An add.
@@ -40,23 +39,6 @@ pub const BRAKE: usize = WHEEL + 1 + handed::BRAKE;
 
 pub const STEERING: usize = WHEEL + 1 + handed::STEERING;
 
-// An aim: the chassis, in the order in which the table keeps it.
-pub const TRANSLATION: usize = FIRST + layout::TRANSLATION;
-
-pub const ORIENTATION: usize = FIRST + layout::ORIENTATION;
-
-pub const MASS_CENTRE: usize = FIRST + layout::MASS_CENTRE;
-
-pub const LINVEL: usize = FIRST + layout::LINVEL;
-
-pub const ANGVEL: usize = FIRST + layout::ANGVEL;
-
-pub const INVMASS: usize = FIRST + layout::INVMASS;
-
-pub const EFFECTIVE: usize = FIRST + layout::EFFECTIVE;
-
-pub const INERTIA: usize = FIRST + layout::INERTIA;
-
 // A drive: the step, the number of bodies, and the bodies, each a lent body's numbers and its flag.
 pub const STEP: usize = FIRST;
 
@@ -64,7 +46,7 @@ pub const BODY_COUNT: usize = STEP + 1;
 
 pub const BODIES: usize = BODY_COUNT + 1;
 
-pub const FLAG: usize = code::BODY_WORDS as usize;
+pub const FLAG: usize = code::BODY_FLOATS as usize;
 
 pub const BODY_WORDS: usize = FLAG + 1;
 
@@ -75,13 +57,13 @@ pub const NORMAL: usize = TIME + 1;
 
 pub const HIT_BODY: usize = NORMAL + 3;
 
-pub const HIT_WORDS: usize = 1 + code::HIT_WORDS as usize;
+pub const HIT_WORDS: usize = 1 + code::HIT_FLOATS as usize + 1;
 
 pub const UPWARD: usize = NORMAL + 3;
 
 pub const HIT_UP_BODY: usize = UPWARD + 3;
 
-pub const HIT_UP_WORDS: usize = 1 + code::HIT_UP_WORDS as usize;
+pub const HIT_UP_WORDS: usize = 1 + code::HIT_UP_FLOATS as usize + 1;
 
 // Where the answers start at the latest: behind every body.
 pub const LAST_ANSWERS: usize = BODIES + (code::BODIES as usize) * BODY_WORDS + 1;

@@ -7,12 +7,13 @@ ghost use Prim.Native.Nat.{_+_, _<_, _≤_};
 ghost use lib.ListN.{length};
 ghost use Rattle.lists.specs.Part.{paste};
 ghost use Rattle.table.specs.Rows.{vectorList};
+ghost use Rattle.scenario.specs.Format.{format};
 ghost use Rattle.scenario.specs.Results.{wordsOf, flagWord};
 
 // The patterns of as many numbers as there are words.
 fn write_numbers(words: &mut [u32], numbers: &[f32])
     requires { ⌜ length (now words) ≡ length (now numbers) ⌝ }
-    ensures { λ _. ⌜ now (words .exit) ≡ wordsOf (now (numbers .entry)) ⌝ }
+    ensures { λ _. ⌜ now (words .exit) ≡ wordsOf format (now (numbers .entry)) ⌝ }
 {
     let mut i = 0usize;
     while i < numbers.len() {
@@ -25,7 +26,7 @@ fn write_numbers(words: &mut [u32], numbers: &[f32])
 // The patterns of numbers, from word a on.
 pub fn put_numbers(words: &mut [u32], a: usize, numbers: &[f32])
     requires { ⌜ a + length (now numbers) ≤ length (now words) ⌝ }
-    ensures { λ _. ⌜ now (words .exit) ≡ paste (now (words .entry)) a (wordsOf (now (numbers .entry))) ⌝ }
+    ensures { λ _. ⌜ now (words .exit) ≡ paste (now (words .entry)) a (wordsOf format (now (numbers .entry))) ⌝ }
 {
     let e = a + numbers.len();
     write_numbers(&mut words[a..e], numbers);
@@ -33,14 +34,14 @@ pub fn put_numbers(words: &mut [u32], a: usize, numbers: &[f32])
 
 pub fn put_float(words: &mut [u32], a: usize, x: f32)
     requires { ⌜ a < length (now words) ⌝ }
-    ensures { λ _. ⌜ now (words .exit) ≡ paste (now (words .entry)) a (wordsOf (x ∷ [])) ⌝ }
+    ensures { λ _. ⌜ now (words .exit) ≡ paste (now (words .entry)) a (wordsOf format (x ∷ [])) ⌝ }
 {
     put_numbers(words, a, &[x]);
 }
 
 pub fn put_vector(words: &mut [u32], a: usize, v: Vector)
     requires { ⌜ a + 2 < length (now words) ⌝ }
-    ensures { λ _. ⌜ now (words .exit) ≡ paste (now (words .entry)) a (wordsOf (vectorList v)) ⌝ }
+    ensures { λ _. ⌜ now (words .exit) ≡ paste (now (words .entry)) a (wordsOf format (vectorList v)) ⌝ }
 {
     put_numbers(words, a, &[v.x, v.y, v.z]);
 }

@@ -7,7 +7,9 @@ use lib.Ieee.{Float}
 use lib.ListN.{length, take, getD}
 use Rattle.refusals.specs.After.{After}
 use Rattle.stream.specs.Code.{shown}
-use Rattle.lines.specs.Line.{line, Puts}
+use Rattle.lists.specs.Puts.{Puts}
+use Rattle.lines.specs.Line.{line}
+use Rattle.scenario.specs.Format.{format, hexDigitsOf}
 use Rattle.perform.specs.declared.Answer.{Answer}
 use Rattle.perform.specs.Call.{Answered, callOf, Performs}
 use Rattle.session.specs.declared.Next.{Next}
@@ -22,9 +24,9 @@ module _ {x : After Answered} {r : Answer} {old new : List ℕ} {t : List Float}
   pub results-front : take (r .count) new ≡ x .reply .results
   results-front = rw (p .count) (lent-front old new (x .reply .results) (p .lent))
 
-pub call-made : (l : List ℕ) (t : List Float) (m : List ℕ) {r : Answer} {old new : List ℕ} {t' : List Float} {m' : List ℕ} → Performs (callOf l t m) r old new t' m'
-    → {before after : List ℕ} {at next : ℕ} → Puts before after at next (line (getD l 0 0) (r .number) (take (r .count) new))
-    → (taken : ℕ) (n : Next) → n ≡ following (getD l 0 0) taken → Turns (called l taken (car t m)) (record { at = next; next = n }) at before after t' m'
+pub call-made : (l : List ℕ) (t : List Float) (m : List ℕ) {r : Answer} {old new : List ℕ} {t' : List Float} {m' : List ℕ} → Performs (callOf format l t m) r old new t' m'
+    → {before after : List ℕ} {at next : ℕ} → Puts before after at next (line (hexDigitsOf format) (getD l 0 0) (r .number) (take (r .count) new))
+    → (taken : ℕ) (n : Next) → n ≡ following (getD l 0 0) taken → Turns (called format l taken (car t m)) (record { at = next; next = n }) at before after t' m'
 unfolding called shown
 call-made l t m p q taken n e =
     record {

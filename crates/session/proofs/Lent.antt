@@ -6,7 +6,7 @@ use native.Mathlib.Omega.{arith}
 use lib.ListN.{length, take, length-append}
 use lib.Seq.{length-take-le, take-append-seam}
 use Rattle.lists.specs.Part.{paste}
-use Rattle.lines.specs.Line.{Puts}
+use Rattle.lists.specs.Puts.{Puts}
 
 module _ {A : Type 0} where
   pub lent-fits : (old new r : List A) (a : ℕ) → new ≡ paste old a r → length new ≡ length old → a ≤ length old → a + length r ≤ length old
@@ -18,4 +18,4 @@ module _ {A : Type 0} where
   lent-front old new r e = rw e (take-append-seam r _)
 
 pub puts-within : {before after text : List ℕ} {at next : ℕ} → Puts before after at next text → length after ≡ length before → at ≤ length before → next ≤ length before
-puts-within {before} {after} {text} {at} {next} p same h = omega (arith, p .end, lent-fits before after text at (p .bytes) same h)
+puts-within {before} {after} {text} {at} {next} p same h = omega (arith, p .end, lent-fits before after text at (p .put) same h)

@@ -6,23 +6,24 @@ use mathlib.Core.Path.{_≡_, refl, sym, ap, _∙_}
 use native.Mathlib.Omega.{arith}
 use borrow.Author.Tests.{lt-ltb, le-ltb}
 use lib.Dec.{eqb}
-use lib.Ieee.{Float}
+use lib.Ieee.{Float, Format}
 use lib.ListN.{length, take, drop, length-drop}
 use lib.Seq.{take-all, drop-drop}
 use Rattle.lists.specs.Pick.{pick}
 use Rattle.table.specs.Layout as places
 use Rattle.stream.specs.declared.Code.{Code}
 use Rattle.stream.specs.Layout as code
-use Rattle.stream.specs.Code.{Reading, shown, readCode}
+use Rattle.stream.specs.Code.{shown, readCode}
 use Rattle.stream.proofs.Readings.{took-code}
-use Rattle.lines.specs.Layout.{LINE-BYTES}
-use Rattle.lines.specs.Line.{Puts}
-use Rattle.lines.proofs.Puts.{paste-nil, puts-join}
+use Rattle.lines.specs.Layout.{lineBytes, LINE-BYTES}
+use Rattle.lists.specs.Puts.{Puts}
+use Rattle.lists.proofs.Puts.{paste-nil, puts-join}
+use Rattle.scenario.specs.Format.{format, widthsOf, hexDigitsOf}
 use Rattle.session.specs.declared.Next.{Next}
 use Rattle.session.specs.declared.Turn.{Turn}
 use Rattle.session.specs.declared.Stands.{Stands}
 use Rattle.session.specs.Program.{Car, car, padded}
-use Rattle.session.specs.Turns.{Turned, following, called, malformed, turnedBy, turnOf, Turns}
+use Rattle.session.specs.Turns.{following, called, malformed, turnedBy, turnOf, Turns}
 use Rattle.session.specs.Runs.{Ran, ran, behind, ranBy, runOn, runOf, Runs}
 use Rattle.session.proofs.Lent.{puts-within}
 
@@ -37,31 +38,31 @@ unfolding pick
 took-by true taken n h = let z : _≡_ {A = ℕ} 0 1 = cc in absurd (omega arith)
 took-by false taken n h = cc
 
-pub turn-took : (last : Bool) (s : Car) (bytes : List ℕ) (n : ℕ) → turnOf last s bytes .next ≡ Next.On n → Took bytes n
+pub turn-took : (f : Format) (last : Bool) (s : Car) (bytes : List ℕ) (n : ℕ) → turnOf f last s bytes .next ≡ Next.On n → Took bytes n
 unfolding turnOf turnedBy called following malformed pick
-turn-took last s bytes n = go (readCode bytes .code) refl
+turn-took f last s bytes n = go (readCode (widthsOf f) bytes .code) refl
   where
-    short : (b : Bool) (c : ℕ) → pick b (malformed c s) (record { text = []; car = s; next = Next.More }) .next ≡ Next.On n → Took bytes n
+    short : (b : Bool) (c : ℕ) → pick b (malformed f c s) (record { text = []; car = s; next = Next.More }) .next ≡ Next.On n → Took bytes n
     short true c h = let z : _≡_ {A = ℕ} 0 1 = cc in absurd (omega arith)
     short false c h = let z : _≡_ {A = ℕ} 0 1 = cc in absurd (omega arith)
 
-    go : (r : Code) → readCode bytes .code ≡ r → turnedBy last r (readCode bytes .words) s .next ≡ Next.On n → Took bytes n
+    go : (r : Code) → readCode (widthsOf f) bytes .code ≡ r → turnedBy f last r (readCode (widthsOf f) bytes .words) s .next ≡ Next.On n → Took bytes n
     go (Code.Whole c taken) e h =
-        let t = took-code bytes c taken e in
-        let same : taken ≡ n = took-by (eqb (shown (padded (readCode bytes .words))) code.END) taken n h in
+        let t = took-code (widthsOf f) bytes c taken e in
+        let same : taken ≡ n = took-by (eqb (shown (padded (readCode (widthsOf f) bytes .words))) code.END) taken n h in
         record { some = omega (arith, t .some); within = omega (arith, t .within) }
     go (Code.Short c) e h = short last c h
     go (Code.Malformed c) e h = let z : _≡_ {A = ℕ} 0 1 = cc in absurd (omega arith)
 
 -- ---- a run
-module _ (last : Bool) (k : ℕ) (s : Car) (room : ℕ) (bytes : List ℕ) where
-  pub run-full : room < LINE-BYTES → runOn last (suc k) s room bytes ≡ ran [] s 0 Stands.Full
+module _ (f : Format) (last : Bool) (k : ℕ) (s : Car) (room : ℕ) (bytes : List ℕ) where
+  pub run-full : room < lineBytes (hexDigitsOf f) → runOn f last (suc k) s room bytes ≡ ran [] s 0 Stands.Full
   unfolding runOn pick
-  run-full h = rw (lt-ltb room LINE-BYTES h)
+  run-full h = rw (lt-ltb room (lineBytes (hexDigitsOf f)) h)
 
-  pub run-by : (n : Next) → LINE-BYTES ≤ room → turnOf last s bytes .next ≡ n → runOn last (suc k) s room bytes ≡ ranBy (runOn last k) n (turnOf last s bytes) room bytes
+  pub run-by : (n : Next) → lineBytes (hexDigitsOf f) ≤ room → turnOf f last s bytes .next ≡ n → runOn f last (suc k) s room bytes ≡ ranBy (runOn f last k) n (turnOf f last s bytes) room bytes
   unfolding runOn pick
-  run-by n h e = rw (le-ltb room LINE-BYTES h, e)
+  run-by n h e = rw (le-ltb room (lineBytes (hexDigitsOf f)) h, e)
 
 behind-behind : (a b : List ℕ) (i j : ℕ) (y : Ran) → behind a i (behind b j y) ≡ behind (a ++ b) (i + j) y
 behind-behind a b i j y =
@@ -80,7 +81,7 @@ pub record Running (last : Bool) (bytes : List ℕ) (t₀ : List Float) (m₀ be
   pub rows : length t ≡ places.SIZE
   pub marks : length m ≡ places.WHOLE
   pub puts : Puts before now 0 at text
-  pub same : runOf last (car t₀ m₀) (length before) bytes ≡ behind text taken (runOn last (suc k) (car t m) (length before - at) (drop taken bytes))
+  pub same : runOf format last (car t₀ m₀) (length before) bytes ≡ behind text taken (runOn format last (suc k) (car t m) (length before - at) (drop taken bytes))
 
 pub none-run : (last : Bool) (bytes : List ℕ) (t : List Float) (m before : List ℕ) → length t ≡ places.SIZE → length m ≡ places.WHOLE → Running last bytes t m before t m before 0 0
 unfolding runOf
@@ -96,27 +97,27 @@ none-run last bytes t m before p q =
       sized = refl;
       rows = p;
       marks = q;
-      puts = record { bytes = sym (paste-nil before 0); end = refl };
+      puts = record { put = sym (paste-nil before 0); end = refl };
       same = rw (all, none);
     }
 
 module _ {last : Bool} {bytes : List ℕ} {t₀ : List Float} {m₀ before : List ℕ} {t : List Float} {m now : List ℕ} {taken at : ℕ} (s : Running last bytes t₀ m₀ before t m now taken at) where
-  pub stands-full : length now - at < LINE-BYTES → Runs (runOf last (car t₀ m₀) (length before) bytes) (record { taken = taken; at = at; stands = Stands.Full }) before now t m
+  pub stands-full : length now - at < LINE-BYTES → Runs (runOf format last (car t₀ m₀) (length before) bytes) (record { taken = taken; at = at; stands = Stands.Full }) before now t m
   stands-full h =
-      let full = run-full last (s .k) (car t m) (length before - at) (drop taken bytes) (omega (arith, s .sized)) in
+      let full = run-full format last (s .k) (car t m) (length before - at) (drop taken bytes) (omega (arith, s .sized)) in
       let end : taken + 0 ≡ taken = omega arith in
       rw (s .same, full, append-nil, end) (record { puts = s .puts; taken = refl; stands = refl; table = refl; whole = refl })
 
   -- a code was taken from the bytes that are left
   module _ {r : Turn} {after : List ℕ} {t' : List Float} {m' : List ℕ} (h : LINE-BYTES ≤ length now - at) (kept : length after ≡ length now)
-      (p : Turns (turnOf last (car t m) (take (length bytes - taken) (drop taken bytes))) r at now after t' m') where
-    taken-from : Turns (turnOf last (car t m) (drop taken bytes)) r at now after t' m'
+      (p : Turns (turnOf format last (car t m) (take (length bytes - taken) (drop taken bytes))) r at now after t' m') where
+    taken-from : Turns (turnOf format last (car t m) (drop taken bytes)) r at now after t' m'
     taken-from =
         let whole : take (length bytes - taken) (drop taken bytes) ≡ drop taken bytes = take-all (length bytes - taken) (drop taken bytes) (rw length-drop (omega arith)) in
         rw whole at p
 
     took-next : (n : ℕ) → r .next ≡ Next.On n → Took (drop taken bytes) n
-    took-next n e = turn-took last (car t m) (drop taken bytes) n (sym (taken-from .next) ∙ e)
+    took-next n e = turn-took format last (car t m) (drop taken bytes) n (sym (taken-from .next) ∙ e)
 
     pub next-within : (n : ℕ) → r .next ≡ Next.On n → (0 < n) × (taken + n ≤ length bytes)
     next-within n e =
@@ -125,37 +126,37 @@ module _ {last : Bool} {bytes : List ℕ} {t₀ : List Float} {m₀ before : Lis
         (took .some, omega (arith, took .within, s .within))
 
     run-next : (n : Next) → r .next ≡ n
-        → runOf last (car t₀ m₀) (length before) bytes ≡ behind (s .text) taken (ranBy (runOn last (s .k)) n (turnOf last (car t m) (drop taken bytes)) (length before - at) (drop taken bytes))
-    run-next n e = s .same ∙ ap (behind (s .text) taken) (run-by last (s .k) (car t m) (length before - at) (drop taken bytes) n (omega (arith, s .sized)) (sym (taken-from .next) ∙ e))
+        → runOf format last (car t₀ m₀) (length before) bytes ≡ behind (s .text) taken (ranBy (runOn format last (s .k)) n (turnOf format last (car t m) (drop taken bytes)) (length before - at) (drop taken bytes))
+    run-next n e = s .same ∙ ap (behind (s .text) taken) (run-by format last (s .k) (car t m) (length before - at) (drop taken bytes) n (omega (arith, s .sized)) (sym (taken-from .next) ∙ e))
 
-    puts-next : Puts before after 0 (r .at) (s .text ++ turnOf last (car t m) (drop taken bytes) .text)
+    puts-next : Puts before after 0 (r .at) (s .text ++ turnOf format last (car t m) (drop taken bytes) .text)
     puts-next = puts-join (s .puts) (taken-from .puts) (omega arith)
 
-    ends-with : (stands : Stands) → runOf last (car t₀ m₀) (length before) bytes ≡ behind (s .text) taken (ran (turnOf last (car t m) (drop taken bytes) .text) (turnOf last (car t m) (drop taken bytes) .car) 0 stands)
-        → Runs (runOf last (car t₀ m₀) (length before) bytes) (record { taken = taken; at = r .at; stands = stands }) before after t' m'
+    ends-with : (stands : Stands) → runOf format last (car t₀ m₀) (length before) bytes ≡ behind (s .text) taken (ran (turnOf format last (car t m) (drop taken bytes) .text) (turnOf format last (car t m) (drop taken bytes) .car) 0 stands)
+        → Runs (runOf format last (car t₀ m₀) (length before) bytes) (record { taken = taken; at = r .at; stands = stands }) before after t' m'
     ends-with stands e =
         let end : taken + 0 ≡ taken = omega arith in
         rw e (record { puts = puts-next; taken = sym end; stands = refl; table = taken-from .table; whole = taken-from .whole })
 
-    pub stands-ended : r .next ≡ Next.Ended → Runs (runOf last (car t₀ m₀) (length before) bytes) (record { taken = taken; at = r .at; stands = Stands.Ended }) before after t' m'
+    pub stands-ended : r .next ≡ Next.Ended → Runs (runOf format last (car t₀ m₀) (length before) bytes) (record { taken = taken; at = r .at; stands = Stands.Ended }) before after t' m'
     unfolding ranBy
     stands-ended e = ends-with Stands.Ended (run-next Next.Ended e)
 
-    pub stands-more : r .next ≡ Next.More → Runs (runOf last (car t₀ m₀) (length before) bytes) (record { taken = taken; at = r .at; stands = Stands.More }) before after t' m'
+    pub stands-more : r .next ≡ Next.More → Runs (runOf format last (car t₀ m₀) (length before) bytes) (record { taken = taken; at = r .at; stands = Stands.More }) before after t' m'
     unfolding ranBy
     stands-more e = ends-with Stands.More (run-next Next.More e)
 
     pub one-run : (n : ℕ) → r .next ≡ Next.On n → length t' ≡ length t → length m' ≡ length m → Running last bytes t₀ m₀ before t' m' after (taken + n) (r .at)
     unfolding ranBy
     one-run n e rows marks =
-        let x = turnOf last (car t m) (drop taken bytes) in
+        let x = turnOf format last (car t m) (drop taken bytes) in
         let took = took-next n e in
         let long = length-drop taken bytes in
         let reach = puts-within puts-next (kept ∙ s .sized) (omega arith) in
         let fuel : s .k ≡ suc (s .k - 1) = omega (arith, s .left, took .some, took .within) in
         let rooms : length before - at - length (x .text) ≡ length before - r .at = omega (arith, taken-from .puts .end) in
         let cars : x .car ≡ car t' m' = rw (taken-from .table, taken-from .whole) in
-        let on : runOf last (car t₀ m₀) (length before) bytes ≡ behind (s .text ++ x .text) (taken + n) (runOn last (s .k) (x .car) (length before - at - length (x .text)) (drop n (drop taken bytes))) =
+        let on : runOf format last (car t₀ m₀) (length before) bytes ≡ behind (s .text ++ x .text) (taken + n) (runOn format last (s .k) (x .car) (length before - at - length (x .text)) (drop n (drop taken bytes))) =
         run-next (Next.On n) e ∙ behind-behind (s .text) (x .text) taken n _ in
         record {
           text = s .text ++ x .text;

@@ -9,7 +9,7 @@ use lib.Seq.{drop-cons, getD-drop}
 use Rattle.lists.specs.Part.{part}
 use Rattle.lists.proofs.Parts.{length-part, getD-part}
 use Rattle.lists.proofs.Filling.{Filling, fill-none, fill-more, fill-all}
-use Rattle.lines.specs.Line.{Puts}
+use Rattle.lists.specs.Puts.{Puts}
 
 -- i of the n bytes from a place on are moved
 pub record Shifting (before now : List ℕ) (from n i : ℕ) : Type 0 where
@@ -40,6 +40,6 @@ module _ (before : List ℕ) (from n : ℕ) where
         let end : i ≡ n = omega (arith, s .few) in
         let none : drop i (part before from n) ≡ [] = drop-of-length-le (part before from n) {i = i} (omega arith) in
         record {
-          bytes = fill-all before now i _ _ (omega arith) none (s .filling);
+          put = fill-all before now i _ _ (omega arith) none (s .filling);
           end = rw (long, end) (omega arith);
         }

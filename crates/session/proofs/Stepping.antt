@@ -8,7 +8,8 @@ use lib.Ieee.{Float}
 use lib.ListN.{length, take, drop, length-drop}
 use lib.Seq.{length-take-le, take-nil}
 use Rattle.lists.specs.Part.{part}
-use Rattle.lines.specs.Line.{Puts}
+use Rattle.lists.specs.Puts.{Puts}
+use Rattle.scenario.specs.Format.{format}
 use Rattle.session.specs.declared.Run.{Run}
 use Rattle.session.specs.declared.Step.{Step}
 use Rattle.session.specs.declared.Stands.{Stands}
@@ -16,7 +17,7 @@ use Rattle.session.specs.Layout.{WINDOW-BYTES}
 use Rattle.session.specs.Program.{Car}
 use Rattle.session.specs.Runs.{Ran, runOf, Runs, Steps}
 use Rattle.session.proofs.Lent.{lent-front, puts-within}
-use Rattle.session.proofs.Windows.{Goes, run-goes}
+use Rattle.session.proofs.Windows.{run-goes}
 
 rest-of : (t : List ℕ) (a b : ℕ) → take (b - a) (drop a t) ≡ drop a (take b t)
 rest-of t zero b =
@@ -35,12 +36,12 @@ unfolding part
 part-rest t a b = rest-of t a b
 
 module _ (last : Bool) (s : Car) (room : ℕ) (window : List ℕ) (filled : ℕ) {r : Run} {before after : List ℕ} {t : List Float} {m : List ℕ}
-    (p : Runs (runOf last s room (take filled window)) r before after t m) (fits : filled ≤ length window) where
+    (p : Runs (runOf format last s room (take filled window)) r before after t m) (fits : filled ≤ length window) where
   pub took-within : r .taken ≤ filled
-  took-within = omega (arith, p .taken, run-goes last s room (take filled window) .within, length-take-le filled window fits)
+  took-within = omega (arith, p .taken, run-goes format last s room (take filled window) .within, length-take-le filled window fits)
 
   pub step-made : {window' : List ℕ} {n : ℕ} → Puts window window' 0 n (part window (r .taken) (filled - r .taken)) → length window' ≡ length window → length after ≡ length before
-      → Steps (runOf last s room (take filled window)) (take filled window) (record { filled = n; at = r .at; stands = r .stands }) window window' before after t m
+      → Steps (runOf format last s room (take filled window)) (take filled window) (record { filled = n; at = r .at; stands = r .stands }) window window' before after t m
   step-made q same kept = record {
     puts = p .puts;
     stands = p .stands;
@@ -56,11 +57,11 @@ pub step-leaves : {x : Ran} {bytes : List ℕ} {r : Step} {window window' before
     → Steps x bytes r window window' before after t m → take (r .filled) window' ≡ drop (x .taken) bytes
 step-leaves {x} {bytes} {r} {window} {window'} p =
     let count : r .filled ≡ length (drop (x .taken) bytes) = omega (arith, p .moves .end) in
-    rw count (lent-front window window' (drop (x .taken) bytes) (p .moves .bytes))
+    rw count (lent-front window window' (drop (x .taken) bytes) (p .moves .put))
 
 -- A window that asks for more bytes has room for them: fewer are left than the longest code has.
 pub window-has-room : (last : Bool) (s : Car) (room : ℕ) (bytes : List ℕ) {r : Step} {window window' before after : List ℕ} {t : List Float} {m : List ℕ}
-    → Steps (runOf last s room bytes) bytes r window window' before after t m → r .stands ≡ Stands.More → r .filled < WINDOW-BYTES
+    → Steps (runOf format last s room bytes) bytes r window window' before after t m → r .stands ≡ Stands.More → r .filled < WINDOW-BYTES
 window-has-room last s room bytes p e =
-    let few = run-goes last s room bytes .more (sym (p .stands) ∙ e) .1 in
-    omega (arith, few, p .moves .end, length-drop (runOf last s room bytes .taken) bytes)
+    let few = run-goes format last s room bytes .more (sym (p .stands) ∙ e) .1 in
+    omega (arith, few, p .moves .end, length-drop (runOf format last s room bytes .taken) bytes)

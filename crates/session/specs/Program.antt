@@ -2,7 +2,7 @@
 use Prim.Native.Nat.{ℕ, zero, suc}
 use mathlib.Core.List.{List, [], _++_}
 use lib.Dec.{eqb}
-use lib.Ieee.{Float}
+use lib.Ieee.{Float, Format}
 use lib.ListN.{length, drop, replicate}
 use Rattle.lists.specs.Pick.{pick}
 use Rattle.lists.specs.Part.{paste}
@@ -11,8 +11,9 @@ use Rattle.table.specs.Layout as at
 use Rattle.vehicle.specs.SetUp.{setUp}
 use Rattle.stream.specs.declared.Code.{Code}
 use Rattle.stream.specs.Layout as code
-use Rattle.stream.specs.Code.{Reading, shown, readCode}
+use Rattle.stream.specs.Code.{shown, readCode}
 use Rattle.lines.specs.Line.{line, title}
+use Rattle.scenario.specs.Format.{widthsOf, hexDigitsOf}
 use Rattle.perform.specs.Call.{callOf}
 
 -- what the program keeps: the table and the whole numbers
@@ -38,22 +39,22 @@ unfoldable pub padded : List ℕ → List ℕ
 padded l = paste (replicate code.CODE-WORDS 0) 0 l
 
 -- what is printed from a code on, by what stands at the start of the bytes; `on` prints what follows it. An end before code 0 is a malformed place too.
-unfoldable pub printedBy : (Car → List ℕ → List ℕ) → Code → List ℕ → Car → List ℕ → List ℕ
-printedBy on (Code.Whole n taken) l s bytes =
-    let x = callOf (padded l) (s .table) (s .whole) in
-    line (shown l) (x .reply .number) (x .reply .results) ++ pick (eqb (shown l) code.END) [] (on (car (x .table) (x .whole)) (drop taken bytes))
-printedBy on (Code.Short c) l s bytes = line c MALFORMED []
-printedBy on (Code.Malformed c) l s bytes = line c MALFORMED []
+unfoldable pub printedBy : Format → (Car → List ℕ → List ℕ) → Code → List ℕ → Car → List ℕ → List ℕ
+printedBy f on (Code.Whole n taken) l s bytes =
+    let x = callOf f (padded l) (s .table) (s .whole) in
+    line (hexDigitsOf f) (shown l) (x .reply .number) (x .reply .results) ++ pick (eqb (shown l) code.END) [] (on (car (x .table) (x .whole)) (drop taken bytes))
+printedBy f on (Code.Short c) l s bytes = line (hexDigitsOf f) c MALFORMED []
+printedBy f on (Code.Malformed c) l s bytes = line (hexDigitsOf f) c MALFORMED []
 
 -- with at most k codes
-unfoldable pub printedOn : ℕ → Car → List ℕ → List ℕ
-printedOn zero s bytes = []
-printedOn (suc k) s bytes = printedBy (printedOn k) (readCode bytes .code) (readCode bytes .words) s bytes
+unfoldable pub printedOn : Format → ℕ → Car → List ℕ → List ℕ
+printedOn f zero s bytes = []
+printedOn f (suc k) s bytes = printedBy f (printedOn f k) (readCode (widthsOf f) bytes .code) (readCode (widthsOf f) bytes .words) s bytes
 
 -- from a code on, to the end of the stream; each code takes a byte at least
-unfoldable pub printedFrom : Car → List ℕ → List ℕ
-printedFrom s bytes = printedOn (suc (length bytes)) s bytes
+unfoldable pub printedFrom : Format → Car → List ℕ → List ℕ
+printedFrom f s bytes = printedOn f (suc (length bytes)) s bytes
 
 -- the whole stream
-unfoldable pub printed : List ℕ → List ℕ
-printed bytes = title ++ printedFrom startCar bytes
+unfoldable pub printed : Format → List ℕ → List ℕ
+printed f bytes = title ++ printedFrom f startCar bytes

@@ -4,11 +4,12 @@ use mathlib.Core.Bool.{Bool}
 use mathlib.Core.List.{List, [], _++_}
 use mathlib.Core.Path.{_≡_}
 use lib.Dec.{ltb}
-use lib.Ieee.{Float}
+use lib.Ieee.{Float, Format}
 use lib.ListN.{length, drop}
 use Rattle.lists.specs.Pick.{pick}
-use Rattle.lines.specs.Layout.{LINE-BYTES}
-use Rattle.lines.specs.Line.{Puts}
+use Rattle.lists.specs.Puts.{Puts}
+use Rattle.lines.specs.Layout.{lineBytes}
+use Rattle.scenario.specs.Format.{hexDigitsOf}
 use Rattle.session.specs.declared.Next.{Next}
 use Rattle.session.specs.declared.Stands.{Stands}
 use Rattle.session.specs.declared.Run.{Run}
@@ -38,13 +39,13 @@ ranBy on Next.Ended x room bytes = ran (x .text) (x .car) 0 Stands.Ended
 ranBy on Next.More x room bytes = ran (x .text) (x .car) 0 Stands.More
 
 -- with at most k codes
-unfoldable pub runOn : Bool → ℕ → Car → ℕ → List ℕ → Ran
-runOn last zero s room bytes = ran [] s 0 Stands.More
-runOn last (suc k) s room bytes = pick (ltb room LINE-BYTES) (ran [] s 0 Stands.Full) (ranBy (runOn last k) (turnOf last s bytes .next) (turnOf last s bytes) room bytes)
+unfoldable pub runOn : Format → Bool → ℕ → Car → ℕ → List ℕ → Ran
+runOn f last zero s room bytes = ran [] s 0 Stands.More
+runOn f last (suc k) s room bytes = pick (ltb room (lineBytes (hexDigitsOf f))) (ran [] s 0 Stands.Full) (ranBy (runOn f last k) (turnOf f last s bytes .next) (turnOf f last s bytes) room bytes)
 
 -- from the start of the bytes, with room for so many bytes of text; each code takes a byte at least
-unfoldable pub runOf : Bool → Car → ℕ → List ℕ → Ran
-runOf last s room bytes = runOn last (suc (length bytes)) s room bytes
+unfoldable pub runOf : Format → Bool → Car → ℕ → List ℕ → Ran
+runOf f last s room bytes = runOn f last (suc (length bytes)) s room bytes
 
 -- a run is made: its text is put, and the table and the whole numbers are the car's
 pub record Runs (x : Ran) (r : Run) (before after : List ℕ) (t : List Float) (m : List ℕ) : Type 0 where
@@ -55,10 +56,10 @@ pub record Runs (x : Ran) (r : Run) (before after : List ℕ) (t : List Float) (
   pub whole : m ≡ x .car .whole
 
 -- what is printed of a stream after a run over its first bytes, by how the run stands: nothing once the program has ended, and else what the bytes that are left tell
-unfoldable pub printedAfter : Stands → Car → List ℕ → List ℕ
-printedAfter Stands.Ended s bytes = []
-printedAfter Stands.More s bytes = printedFrom s bytes
-printedAfter Stands.Full s bytes = printedFrom s bytes
+unfoldable pub printedAfter : Format → Stands → Car → List ℕ → List ℕ
+printedAfter f Stands.Ended s bytes = []
+printedAfter f Stands.More s bytes = printedFrom f s bytes
+printedAfter f Stands.Full s bytes = printedFrom f s bytes
 
 -- ---- a window that is kept for the next bytes
 -- a run is made over the bytes of a window, and those that are left are moved to its start

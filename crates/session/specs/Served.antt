@@ -2,6 +2,7 @@
 use Prim.Native.Nat.{ℕ, zero, suc}
 use mathlib.Core.Bool.{Bool, true, false}
 use mathlib.Core.List.{List, [], _∷_, _++_}
+use lib.Ieee.{Format}
 use lib.ListN.{drop}
 use Rattle.lines.specs.Line.{title}
 use Rattle.session.specs.declared.Stands.{Stands}
@@ -32,12 +33,12 @@ servedBy on Stands.More y x = on (pulled (y .car) (drop (y .taken) (x .window)) 
 servedBy on Stands.Full y x = on (record { last = x .last; car = y .car; window = drop (y .taken) (x .window); blocks = x .blocks })
 
 -- what k runs print, each with room for so many bytes of text
-unfoldable pub served : ℕ → ℕ → Serving → List ℕ
-served room zero x = []
-served room (suc k) x =
-    let y = runOf (x .last) (x .car) room (x .window) in
-    y .text ++ servedBy (served room k) (y .stands) y x
+unfoldable pub served : Format → ℕ → ℕ → Serving → List ℕ
+served f room zero x = []
+served f room (suc k) x =
+    let y = runOf f (x .last) (x .car) room (x .window) in
+    y .text ++ servedBy (served f room k) (y .stands) y x
 
 -- the whole program over the blocks of its input
-unfoldable pub program : ℕ → ℕ → List (List ℕ) → List ℕ
-program room k blocks = title ++ served room k (record { last = false; car = startCar; window = []; blocks = blocks })
+unfoldable pub program : Format → ℕ → ℕ → List (List ℕ) → List ℕ
+program f room k blocks = title ++ served f room k (record { last = false; car = startCar; window = []; blocks = blocks })

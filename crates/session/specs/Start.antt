@@ -3,7 +3,8 @@ use Prim.Native.Nat.{ℕ, _≤_}
 use mathlib.Core.List.{List}
 use mathlib.Core.Path.{_≡_}
 use lib.Ieee.{Float}
-use Rattle.lines.specs.Line.{title, Puts}
+use Rattle.lists.specs.Puts.{Puts}
+use Rattle.lines.specs.Line.{title}
 use Rattle.session.specs.Layout.{TEXT-BYTES}
 use Rattle.session.specs.Program.{car, startCar}
 

@@ -7,6 +7,7 @@ use lines::layout::LINE_BYTES;
 ghost use mathlib.Core.Path.{_≡_};
 ghost use lib.ListN.{length};
 ghost use Rattle.table.specs.Layout as places;
+ghost use Rattle.scenario.specs.Format.{format};
 ghost use Rattle.session.specs.Program.{car};
 ghost use Rattle.session.specs.Runs.{Runs, runOf};
 
@@ -19,7 +20,7 @@ pub fn run_codes(
     out: &mut [u8],
 ) -> Run
     requires { ⌜ (length (now table) ≡ places.SIZE) × (length (now whole) ≡ places.WHOLE) ⌝ }
-    ensures { λ r. ⌜ Runs (runOf last (car (now (table .entry)) (now (whole .entry))) (length (now (out .entry))) (now (bytes .entry))) r (now (out .entry)) (now (out .exit)) (now (table .exit)) (now (whole .exit)) ⌝ }
+    ensures { λ r. ⌜ Runs (runOf format last (car (now (table .entry)) (now (whole .entry))) (length (now (out .entry))) (now (bytes .entry))) r (now (out .entry)) (now (out .exit)) (now (table .exit)) (now (whole .exit)) ⌝ }
 {
     let mut taken = 0usize;
     let mut at = 0usize;

@@ -9,10 +9,13 @@ ghost use Prim.Native.Nat.{_+_, _≤_};
 ghost use mathlib.Core.List.{[]};
 ghost use mathlib.Core.Path.{_≡_};
 ghost use lib.ListN.{length};
+ghost use Rattle.lists.specs.Puts.{Puts};
 ghost use Rattle.table.specs.Layout as places;
-ghost use Rattle.stream.specs.Layout as code;
+ghost use Rattle.stream.specs.declared.Asked.{Asked};
+ghost use Rattle.stream.specs.Grammar.{asked};
 ghost use Rattle.lines.specs.Layout as text;
-ghost use Rattle.lines.specs.Line.{line, Puts};
+ghost use Rattle.lines.specs.Line.{line};
+ghost use Rattle.scenario.specs.Format.{format, hexDigitsOf};
 ghost use Rattle.scenario.specs.Decode.{numberFrom};
 ghost use Rattle.perform.specs.Call.{Counted};
 ghost use Rattle.session.specs.Program.{car, MALFORMED};
@@ -41,8 +44,8 @@ fn make_call(
     out: &mut [u8],
     at: usize,
 ) -> Turn
-    requires { ⌜ (length (now table) ≡ places.SIZE) × (length (now whole) ≡ places.WHOLE) × (at + text.LINE-BYTES ≤ length (now out)) × (numberFrom (now words) 0 ≡ code.DRIVE → Counted (now words)) ⌝ }
-    ensures { λ r. ⌜ Turns (called (now (words .entry)) taken (car (now (table .entry)) (now (whole .entry)))) r at (now (out .entry)) (now (out .exit)) (now (table .exit)) (now (whole .exit)) ⌝ }
+    requires { ⌜ (length (now table) ≡ places.SIZE) × (length (now whole) ≡ places.WHOLE) × (at + text.LINE-BYTES ≤ length (now out)) × (asked (numberFrom (now words) 0) ≡ Asked.Drive → Counted (now words)) ⌝ }
+    ensures { λ r. ⌜ Turns (called format (now (words .entry)) taken (car (now (table .entry)) (now (whole .entry)))) r at (now (out .entry)) (now (out .exit)) (now (table .exit)) (now (whole .exit)) ⌝ }
 {
     let mut results = [0u32; RESULTS];
     let answer = perform::perform(words, table, whole, &mut results);
@@ -58,7 +61,7 @@ fn make_call(
 // The line of a malformed place in a code.
 fn put_malformed(code: u32, out: &mut [u8], at: usize) -> usize
     requires { ⌜ at + text.LINE-BYTES ≤ length (now out) ⌝ }
-    ensures { λ r. ⌜ Puts (now (out .entry)) (now (out .exit)) at r (line code MALFORMED []) ⌝ }
+    ensures { λ r. ⌜ Puts (now (out .entry)) (now (out .exit)) at r (line (hexDigitsOf format) code MALFORMED []) ⌝ }
 {
     let none = [0u32; 0];
     lines::put_line(code, MALFORMED, &none, out, at)
@@ -74,7 +77,7 @@ pub fn take_code(
     at: usize,
 ) -> Turn
     requires { ⌜ (length (now table) ≡ places.SIZE) × (length (now whole) ≡ places.WHOLE) × (at + text.LINE-BYTES ≤ length (now out)) ⌝ }
-    ensures { λ r. ⌜ Turns (turnOf last (car (now (table .entry)) (now (whole .entry))) (now (bytes .entry))) r at (now (out .entry)) (now (out .exit)) (now (table .exit)) (now (whole .exit)) ⌝ }
+    ensures { λ r. ⌜ Turns (turnOf format last (car (now (table .entry)) (now (whole .entry))) (now (bytes .entry))) r at (now (out .entry)) (now (out .exit)) (now (table .exit)) (now (whole .exit)) ⌝ }
 {
     let mut words = [0u32; CODE_WORDS];
     let code = stream::codes::read_code(bytes, &mut words);

@@ -10,7 +10,8 @@ ghost use mathlib.Core.Path.{_≡_};
 ghost use lib.ListN.{length, take};
 ghost use Rattle.lists.specs.Part.{part};
 ghost use Rattle.table.specs.Layout as places;
-ghost use Rattle.lines.specs.Line.{Puts};
+ghost use Rattle.lists.specs.Puts.{Puts};
+ghost use Rattle.scenario.specs.Format.{format};
 ghost use Rattle.session.specs.Layout as layout;
 ghost use Rattle.session.specs.Program.{car};
 ghost use Rattle.session.specs.Runs.{Steps, runOf};
@@ -39,7 +40,7 @@ fn step_over(
     out: &mut [u8],
 ) -> Step
     requires { ⌜ (filled ≤ length (now window)) × (length (now table) ≡ places.SIZE) × (length (now whole) ≡ places.WHOLE) ⌝ }
-    ensures { λ r. ⌜ Steps (runOf last (car (now (table .entry)) (now (whole .entry))) (length (now (out .entry))) (take filled (now (window .entry)))) (take filled (now (window .entry))) r (now (window .entry)) (now (window .exit)) (now (out .entry)) (now (out .exit)) (now (table .exit)) (now (whole .exit)) ⌝ }
+    ensures { λ r. ⌜ Steps (runOf format last (car (now (table .entry)) (now (whole .entry))) (length (now (out .entry))) (take filled (now (window .entry)))) (take filled (now (window .entry))) r (now (window .entry)) (now (window .exit)) (now (out .entry)) (now (out .exit)) (now (table .exit)) (now (whole .exit)) ⌝ }
 {
     let run = runs::run_codes(&window[..filled], last, table, whole, out);
     let taken = run.taken;
@@ -62,7 +63,7 @@ pub fn step(
     out: &mut [u8; TEXT_BYTES],
 ) -> Step
     requires { ⌜ filled ≤ layout.WINDOW-BYTES ⌝ }
-    ensures { λ r. ⌜ Steps (runOf last (car (now (table .entry)) (now (whole .entry))) layout.TEXT-BYTES (take filled (now (window .entry)))) (take filled (now (window .entry))) r (now (window .entry)) (now (window .exit)) (now (out .entry)) (now (out .exit)) (now (table .exit)) (now (whole .exit)) × (r .filled ≤ layout.WINDOW-BYTES) × (r .at ≤ layout.TEXT-BYTES) ⌝ }
+    ensures { λ r. ⌜ Steps (runOf format last (car (now (table .entry)) (now (whole .entry))) layout.TEXT-BYTES (take filled (now (window .entry)))) (take filled (now (window .entry))) r (now (window .entry)) (now (window .exit)) (now (out .entry)) (now (out .exit)) (now (table .exit)) (now (whole .exit)) × (r .filled ≤ layout.WINDOW-BYTES) × (r .at ≤ layout.TEXT-BYTES) ⌝ }
 {
     step_over(window, filled, last, table, whole, out)
 }

@@ -11,9 +11,9 @@ use Rattle.stream.specs.declared.Number.{Number}
 use Rattle.stream.specs.declared.Place.{Place}
 use Rattle.stream.specs.declared.Verdict.{Verdict}
 use Rattle.stream.specs.declared.Code.{Code}
-use Rattle.stream.specs.Layout.{CODE-WORDS}
+use Rattle.stream.specs.Layout.{Widths, CODE-WORDS}
 use Rattle.stream.specs.Number.{readNumber}
-use Rattle.stream.specs.Grammar.{start, next, verdict}
+use Rattle.stream.specs.Grammar.{widthAt, start, next, verdict}
 use Rattle.stream.specs.Code.{_reads_, shown, Reader, placed, found, readOn, readCode, Reads}
 use Rattle.stream.proofs.Places.{most, most-start, next-less, verdict-start}
 use Rattle.stream.proofs.Outcome.{took}
@@ -22,17 +22,17 @@ abbrev standing : Place → List ℕ → ℕ → List ℕ → Reader
 standing p l taken rest = record { place = p; words = l; taken = taken; rest = rest }
 
 -- the loop has read n words into `now`, lent as `before`, from the first `taken` bytes, and stands at the place p
-pub record Words (bytes before now : List ℕ) (p : Place) (n taken : ℕ) : Type 0 where
+pub record Words (widths : Widths) (bytes before now : List ℕ) (p : Place) (n taken : ℕ) : Type 0 where
   pub asks : verdict p ≡ Verdict.More
   pub room : n + most p ≤ CODE-WORDS
   pub sized : length now ≡ CODE-WORDS
   pub kept : drop n now ≡ drop n before
   pub within : taken ≤ length bytes
-  pub left : readCode bytes ≡ readOn (CODE-WORDS - n) (standing p (take n now) taken (drop taken bytes))
+  pub left : readCode widths bytes ≡ readOn widths (CODE-WORDS - n) (standing p (take n now) taken (drop taken bytes))
 
-pub none-read : (bytes before : List ℕ) (p : Place) → p ≡ start → length before ≡ CODE-WORDS → Words bytes before before p 0 0
+pub none-read : (widths : Widths) (bytes before : List ℕ) (p : Place) → p ≡ start → length before ≡ CODE-WORDS → Words widths bytes before before p 0 0
 unfolding readCode
-none-read bytes before p e h = record {
+none-read widths bytes before p e h = record {
   asks = rw e verdict-start;
   room = rw (e, most-start) (omega arith);
   sized = h;
@@ -41,43 +41,43 @@ none-read bytes before p e h = record {
   left = rw e;
 }
 
-module _ {bytes before now : List ℕ} {p : Place} {n taken : ℕ} (s : Words bytes before now p n taken) where
+module _ {widths : Widths} {bytes before now : List ℕ} {p : Place} {n taken : ℕ} (s : Words widths bytes before now p n taken) where
   -- there is room for a word
   pub has-room : n < CODE-WORDS
   has-room = omega (arith, next-less p 0 (s .asks), s .room)
 
   -- the outcome of a number that was read from the part `&bytes[taken..]`
-  pub number-at : (r : Number) → readNumber (take (length bytes - taken) (drop taken bytes)) ≡ r → readNumber (drop taken bytes) ≡ r
-  number-at r h =
+  pub number-at : (bits : ℕ) (r : Number) → bits ≡ widthAt widths p → readNumber bits (take (length bytes - taken) (drop taken bytes)) ≡ r → readNumber (widthAt widths p) (drop taken bytes) ≡ r
+  number-at bits r e h =
       let whole : take (length bytes - taken) (drop taken bytes) ≡ drop taken bytes = take-all (length bytes - taken) (drop taken bytes) (rw length-drop (omega arith)) in
-      rw whole at h
+      rw (e, whole) at h
 
-  reading : (r : Number) → readNumber (drop taken bytes) ≡ r → readCode bytes ≡ found (readOn (CODE-WORDS - (n + 1))) r (standing p (take n now) taken (drop taken bytes))
+  reading : (r : Number) → readNumber (widthAt widths p) (drop taken bytes) ≡ r → readCode widths bytes ≡ found (readOn widths (CODE-WORDS - (n + 1))) r (standing p (take n now) taken (drop taken bytes))
   unfolding readOn
   reading r h =
       let k : CODE-WORDS - n ≡ suc (CODE-WORDS - (n + 1)) = omega (arith, has-room) in
       rw (s .left, k, h)
 
   -- what was lent, once the first k of `after` are the words that were read
-  ends : (after : List ℕ) (k : ℕ) (c : Code) → k ≤ length after → drop k after ≡ drop k before → readCode bytes ≡ take k after reads c → Reads bytes before after c
+  ends : (after : List ℕ) (k : ℕ) (c : Code) → k ≤ length after → drop k after ≡ drop k before → readCode widths bytes ≡ take k after reads c → Reads widths bytes before after c
   unfolding paste
   ends after k c few same h = record {
     outcome = rw h;
     lent = rw (h, length-take-le k after few, ← same) (sym (take-append-drop k after));
   }
 
-  pub ends-short : (c : ℕ) → readNumber (drop taken bytes) ≡ Number.Short → c ≡ shown (take n now) → Reads bytes before now (Code.Short c)
+  pub ends-short : (c : ℕ) → readNumber (widthAt widths p) (drop taken bytes) ≡ Number.Short → c ≡ shown (take n now) → Reads widths bytes before now (Code.Short c)
   unfolding found
   ends-short c h e = rw e (ends now n (Code.Short (shown (take n now))) (omega (arith, has-room, s .sized)) (s .kept) (reading Number.Short h))
 
-  pub ends-bad : (c : ℕ) → readNumber (drop taken bytes) ≡ Number.Bad → c ≡ shown (take n now) → Reads bytes before now (Code.Malformed c)
+  pub ends-bad : (c : ℕ) → readNumber (widthAt widths p) (drop taken bytes) ≡ Number.Bad → c ≡ shown (take n now) → Reads widths bytes before now (Code.Malformed c)
   unfolding found
   ends-bad c h e = rw e (ends now n (Code.Malformed (shown (take n now))) (omega (arith, has-room, s .sized)) (s .kept) (reading Number.Bad h))
 
-  module _ (w k : ℕ) (h : readNumber (drop taken bytes) ≡ Number.Value w k) where
+  module _ (w k : ℕ) (h : readNumber (widthAt widths p) (drop taken bytes) ≡ Number.Value w k) where
     -- the number lies within the bytes
     pub taken-within : taken + k ≤ length bytes
-    taken-within = omega (arith, simp length-drop at (took (drop taken bytes) w k h .within), s .within)
+    taken-within = omega (arith, simp length-drop at (took (widthAt widths p) (drop taken bytes) w k h .within), s .within)
 
     sized-after : length (set now n w) ≡ CODE-WORDS
     sized-after = length-set now n w ∙ s .sized
@@ -87,27 +87,27 @@ module _ {bytes before now : List ℕ} {p : Place} {n taken : ℕ} (s : Words by
 
     module _ (q : Place) (e : q ≡ next p w) where
       read-word : (v : Verdict) → verdict q ≡ v
-          → readCode bytes ≡ placed (readOn (CODE-WORDS - (n + 1))) v (standing q (take (n + 1) (set now n w)) (taken + k) (drop (taken + k) bytes))
+          → readCode widths bytes ≡ placed (readOn widths (CODE-WORDS - (n + 1))) v (standing q (take (n + 1) (set now n w)) (taken + k) (drop (taken + k) bytes))
       unfolding found
       read-word v d =
           let longer : take (n + 1) (set now n w) ≡ take n now ++ (w ∷ []) = rw add-one (take-suc-set now n w (omega (arith, has-room, s .sized))) in
           let onward : drop (taken + k) bytes ≡ drop k (drop taken bytes) = sym (drop-drop k taken bytes) in
           rw (longer, onward, ← d, e) (reading (Number.Value w k) h)
 
-      ends-word : (c : Code) → readCode bytes ≡ take (n + 1) (set now n w) reads c → Reads bytes before (set now n w) c
+      ends-word : (c : Code) → readCode widths bytes ≡ take (n + 1) (set now n w) reads c → Reads widths bytes before (set now n w) c
       ends-word c = ends (set now n w) (n + 1) c (omega (arith, has-room, sized-after)) kept-after
 
-      pub ends-whole : verdict q ≡ Verdict.Whole → Reads bytes before (set now n w) (Code.Whole (n + 1) (taken + k))
+      pub ends-whole : verdict q ≡ Verdict.Whole → Reads widths bytes before (set now n w) (Code.Whole (n + 1) (taken + k))
       unfolding placed
       ends-whole d =
           let count : length (take (n + 1) (set now n w)) ≡ n + 1 = length-take-le (n + 1) (set now n w) (omega (arith, has-room, sized-after)) in
           ends-word (Code.Whole (n + 1) (taken + k)) (rw count at (read-word Verdict.Whole d))
 
-      pub ends-wrong : (c : ℕ) → verdict q ≡ Verdict.Bad → c ≡ shown (take (n + 1) (set now n w)) → Reads bytes before (set now n w) (Code.Malformed c)
+      pub ends-wrong : (c : ℕ) → verdict q ≡ Verdict.Bad → c ≡ shown (take (n + 1) (set now n w)) → Reads widths bytes before (set now n w) (Code.Malformed c)
       unfolding placed
       ends-wrong c d x = rw x (ends-word (Code.Malformed (shown (take (n + 1) (set now n w)))) (read-word Verdict.Bad d))
 
-      pub one-more : verdict q ≡ Verdict.More → Words bytes before (set now n w) q (n + 1) (taken + k)
+      pub one-more : verdict q ≡ Verdict.More → Words widths bytes before (set now n w) q (n + 1) (taken + k)
       unfolding placed
       one-more d = record {
         asks = d;

@@ -4,15 +4,15 @@ use mathlib.Core.Bool.{Bool, true, false}
 use mathlib.Core.List.{List, [], _∷_, _++_}
 use mathlib.Core.Path.{_≡_}
 use lib.ListN.{length, getD, drop}
-use Rattle.lists.specs.All.{all}
+use Rattle.lists.specs.Pick.{pick}
 use Rattle.lists.specs.Part.{paste}
 use Rattle.stream.specs.declared.Number.{Number}
 use Rattle.stream.specs.declared.Place.{Place}
 use Rattle.stream.specs.declared.Verdict.{Verdict}
 use Rattle.stream.specs.declared.Code.{Code}
-use Rattle.stream.specs.Layout.{CODE-WORDS}
-use Rattle.stream.specs.Number.{isWord, readNumber, writeNumber}
-use Rattle.stream.specs.Grammar.{start, next, verdict, judge}
+use Rattle.stream.specs.Layout.{Widths, CODE-WORDS}
+use Rattle.stream.specs.Number.{hasBits, readNumber, writeNumber}
+use Rattle.stream.specs.Grammar.{widthAt, start, next, verdict, judge}
 
 -- the words that were read, and the outcome
 pub record Reading : Type 0 where
@@ -51,18 +51,18 @@ found on Number.Short s = s .words reads Code.Short (shown (s .words))
 found on Number.Bad s = s .words reads Code.Malformed (shown (s .words))
 
 -- with at most k more words
-unfoldable pub readOn : ℕ → Reader → Reading
-readOn zero s = s .words reads Code.Malformed (shown (s .words))
-readOn (suc k) s = found (readOn k) (readNumber (s .rest)) s
+unfoldable pub readOn : Widths → ℕ → Reader → Reading
+readOn widths zero s = s .words reads Code.Malformed (shown (s .words))
+readOn widths (suc k) s = found (readOn widths k) (readNumber (widthAt widths (s .place)) (s .rest)) s
 
--- what stands at the start of the bytes; no code has more than `CODE-WORDS` words
-unfoldable pub readCode : List ℕ → Reading
-readCode bytes = readOn CODE-WORDS (record { place = start; words = []; taken = 0; rest = bytes })
+-- what stands at the start of the bytes, where numbers are so wide; no code has more than `CODE-WORDS` words
+unfoldable pub readCode : Widths → List ℕ → Reading
+readCode widths bytes = readOn widths CODE-WORDS (record { place = start; words = []; taken = 0; rest = bytes })
 
 -- the outcome of a reading, and the lent words afterwards
-pub record Reads (bytes old new : List ℕ) (r : Code) : Type 0 where
-  pub outcome : r ≡ readCode bytes .code
-  pub lent : new ≡ paste old 0 (readCode bytes .words)
+pub record Reads (widths : Widths) (bytes old new : List ℕ) (r : Code) : Type 0 where
+  pub outcome : r ≡ readCode widths bytes .code
+  pub lent : new ≡ paste old 0 (readCode widths bytes .words)
 
 -- whether the bytes were enough to tell
 unfoldable pub decidedCode : Code → Bool
@@ -70,12 +70,21 @@ decidedCode (Code.Whole n taken) = true
 decidedCode (Code.Short c) = false
 decidedCode (Code.Malformed c) = true
 
+-- words as bytes, from a place on
+unfoldable pub writeWords : Widths → Place → List ℕ → List ℕ
+writeWords widths p [] = []
+writeWords widths p (w ∷ l) = writeNumber (widthAt widths p) w ++ writeWords widths (next p w) l
+
 -- a code as bytes
-unfoldable pub writeCode : List ℕ → List ℕ
-writeCode [] = []
-writeCode (w ∷ l) = writeNumber w ++ writeCode l
+abbrev pub writeCode : Widths → List ℕ → List ℕ
+writeCode widths l = writeWords widths start l
+
+-- each word, from a place on, has the bits of its kind at most
+unfoldable pub fitting : Widths → Place → List ℕ → Bool
+fitting widths p [] = true
+fitting widths p (w ∷ l) = pick (hasBits (widthAt widths p) w) (fitting widths (next p w) l) false
 
 -- words that are a code: the grammar takes them as whole
-pub record IsCode (l : List ℕ) : Type 0 where
-  pub words : all isWord l ≡ true
+pub record IsCode (widths : Widths) (l : List ℕ) : Type 0 where
+  pub fits : fitting widths start l ≡ true
   pub whole : judge l ≡ Verdict.Whole

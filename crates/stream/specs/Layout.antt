@@ -1,19 +1,30 @@
 -- The numbers of the scenario stream: document 01, "Scenario program", and the field order of docs/STREAM.md. Definitions only.
-use Prim.Native.Nat.{ℕ, _+_, _*_}
+use Prim.Native.Nat.{ℕ, _+_, _-_, _*_, _/_, _%_, _^_}
 
 -- ---- a number
--- a group holds seven bits: a byte from here on has its top bit set
+-- a group holds so many bits, and a byte from GROUP on has its top bit set
+abbrev pub GROUP-BITS : ℕ
+GROUP-BITS = 7
+
 abbrev pub GROUP : ℕ
 GROUP = 128
 
--- the last group that 32 bits reach into, counted from 0, and the most that it holds
-abbrev pub LAST : ℕ
-LAST = 4
+-- the last group that so many bits reach into, counted from 0, and the most that it holds
+abbrev pub last : ℕ → ℕ
+last bits = bits / GROUP-BITS
 
-abbrev pub LAST-MOST : ℕ
-LAST-MOST = 15
+abbrev pub lastMost : ℕ → ℕ
+lastMost bits = 2 ^ (bits % GROUP-BITS) - 1
 
--- ---- the codes, and how many words follow them
+-- how many bits a float has, and a whole number at most
+pub record Widths : Type 0 where
+  pub float : ℕ
+  pub whole : ℕ
+
+abbrev pub WIDTHS : Widths
+WIDTHS = record { float = 32; whole = 32 }
+
+-- ---- the codes, and how many floats follow them
 abbrev pub END : ℕ
 END = 0
 
@@ -21,48 +32,48 @@ abbrev pub ADD : ℕ
 ADD = 1
 
 -- three vectors, rest length, radius and the seven numbers of `WheelTuning`
-abbrev pub ADD-WORDS : ℕ
-ADD-WORDS = 18
+abbrev pub ADD-FLOATS : ℕ
+ADD-FLOATS = 18
 
 abbrev pub CONTROLS : ℕ
 CONTROLS = 2
 
--- wheel, engine, brake and a rotation
-abbrev pub CONTROLS-WORDS : ℕ
-CONTROLS-WORDS = 7
+-- the wheel's number; then engine, brake and a rotation
+abbrev pub CONTROLS-FLOATS : ℕ
+CONTROLS-FLOATS = 6
 
 abbrev pub AIM : ℕ
 AIM = 3
 
 -- the chassis
-abbrev pub AIM-WORDS : ℕ
-AIM-WORDS = 26
+abbrev pub AIM-FLOATS : ℕ
+AIM-FLOATS = 26
 
 abbrev pub DRIVE : ℕ
 DRIVE = 4
 
 -- dt; then the bodies and the answers
-abbrev pub STEP-WORDS : ℕ
-STEP-WORDS = 1
+abbrev pub STEP-FLOATS : ℕ
+STEP-FLOATS = 1
 
+-- the wheel's number
 abbrev pub READ : ℕ
 READ = 5
 
--- wheel
-abbrev pub READ-WORDS : ℕ
-READ-WORDS = 1
+abbrev pub READ-FLOATS : ℕ
+READ-FLOATS = 0
 
--- ---- the bodies of a drive: how many at most, the words of each, and the most that its flag may be
+-- ---- the bodies of a drive: how many at most, the floats of each, and the most that its flag may be
 abbrev pub BODIES : ℕ
 BODIES = 64
 
-abbrev pub BODY-WORDS : ℕ
-BODY-WORDS = 16
+abbrev pub BODY-FLOATS : ℕ
+BODY-FLOATS = 16
 
 abbrev pub DYNAMIC : ℕ
 DYNAMIC = 1
 
--- ---- the answers of a drive: how many at most, their kinds, and how many words follow these
+-- ---- the answers of a drive: how many at most, their kinds, and how many floats follow these
 abbrev pub ANSWERS : ℕ
 ANSWERS = 16
 
@@ -72,26 +83,33 @@ NOTHING = 0
 abbrev pub HIT : ℕ
 HIT = 1
 
--- time, normal and body
-abbrev pub HIT-WORDS : ℕ
-HIT-WORDS = 5
+-- time and normal; then the body's number
+abbrev pub HIT-FLOATS : ℕ
+HIT-FLOATS = 4
 
 abbrev pub HIT-UP : ℕ
 HIT-UP = 2
 
--- time, normal, upward normal and body
-abbrev pub HIT-UP-WORDS : ℕ
-HIT-UP-WORDS = 8
+-- time, normal and upward normal; then the body's number
+abbrev pub HIT-UP-FLOATS : ℕ
+HIT-UP-FLOATS = 7
 
 -- ---- the longest code: a drive of every body, and every answer with its upward normal
+abbrev pub ANSWER-WORDS : ℕ
+ANSWER-WORDS = 1 + HIT-UP-FLOATS + 1
+
 abbrev pub ANSWERS-WORDS : ℕ
-ANSWERS-WORDS = 1 + ANSWERS * (1 + HIT-UP-WORDS)
+ANSWERS-WORDS = 1 + ANSWERS * ANSWER-WORDS
 
 abbrev pub BODIES-WORDS : ℕ
-BODIES-WORDS = 1 + BODIES * (BODY-WORDS + 1) + ANSWERS-WORDS
+BODIES-WORDS = 1 + BODIES * (BODY-FLOATS + 1) + ANSWERS-WORDS
 
 abbrev pub CODE-WORDS : ℕ
-CODE-WORDS = 1 + STEP-WORDS + BODIES-WORDS
+CODE-WORDS = 1 + STEP-FLOATS + BODIES-WORDS
+
+-- as many bytes as it has where each word is as wide as a float, and no whole number is wider
+abbrev pub codeBytes : Widths → ℕ
+codeBytes widths = CODE-WORDS * (last (widths .float) + 1)
 
 abbrev pub CODE-BYTES : ℕ
-CODE-BYTES = CODE-WORDS * (LAST + 1)
+CODE-BYTES = codeBytes WIDTHS

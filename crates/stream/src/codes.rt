@@ -21,13 +21,13 @@ fn shown(words: &[u32], n: usize) -> u32
 // What stands at the start of the bytes; its words go into the lent ones.
 fn read_words(bytes: &[u8], words: &mut [u32]) -> Code
     requires { ⌜ length (now words) ≡ layout.CODE-WORDS ⌝ }
-    ensures { λ r. ⌜ code.Reads (now (bytes .entry)) (now (words .entry)) (now (words .exit)) r ⌝ }
+    ensures { λ r. ⌜ code.Reads layout.WIDTHS (now (bytes .entry)) (now (words .entry)) (now (words .exit)) r ⌝ }
 {
     let mut place = grammar::start();
     let mut n = 0usize;
     let mut taken = 0usize;
     let code = loop {
-        let number = numbers::read_number(&bytes[taken..]);
+        let number = numbers::read_number(grammar::width_at(place), &bytes[taken..]);
         match number {
             Number::Value(word, length) => {
                 words[n] = word;
@@ -50,7 +50,7 @@ fn read_words(bytes: &[u8], words: &mut [u32]) -> Code
 
 // The same, where the lent words are known to have room.
 pub fn read_code(bytes: &[u8], words: &mut [u32; CODE_WORDS]) -> Code
-    ensures { λ r. ⌜ code.Reads (now (bytes .entry)) (now (words .entry)) (now (words .exit)) r ⌝ }
+    ensures { λ r. ⌜ code.Reads layout.WIDTHS (now (bytes .entry)) (now (words .entry)) (now (words .exit)) r ⌝ }
 {
     read_words(bytes, words)
 }

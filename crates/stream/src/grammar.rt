@@ -1,16 +1,36 @@
 // What may follow the words of a code that are read so far: the field order of docs/STREAM.md.
+use super::Asked;
 use super::Mark;
 use super::Place;
 use super::Verdict;
 use super::layout::*;
 ghost use mathlib.Core.Path.{_≡_};
+ghost use Rattle.stream.specs.Layout as layout;
 ghost use Rattle.stream.specs.Grammar as grammar;
 
-// So many words of any value, then the mark's.
-fn then(plain: u32, mark: Mark) -> Place
-    ensures { λ r. ⌜ r ≡ grammar._then_ plain mark ⌝ }
+// So many floats, then the mark's whole number.
+fn then(floats: u32, mark: Mark) -> Place
+    ensures { λ r. ⌜ r ≡ grammar._then_ floats mark ⌝ }
 {
-    Place { plain, mark }
+    Place { floats, mark }
+}
+
+// Whether the word at a place is a float.
+fn is_float(place: Place) -> bool
+    ensures { λ r. ⌜ r ≡ grammar.isFloat place ⌝ }
+{
+    place.floats > 0
+}
+
+// How many bits the word at a place has at most.
+pub fn width_at(place: Place) -> u32
+    ensures { λ r. ⌜ r ≡ grammar.widthAt layout.WIDTHS place ⌝ }
+{
+    if is_float(place) {
+        FLOAT_BITS
+    } else {
+        WHOLE_BITS
+    }
 }
 
 // The place of the code itself.
@@ -20,18 +40,33 @@ pub fn start() -> Place
     then(0, Mark::Code)
 }
 
-// After a code.
-fn after_code(code: u32) -> Place
-    ensures { λ r. ⌜ r ≡ grammar.afterCode code ⌝ }
+// What a code asks for.
+pub fn asked(code: u32) -> Asked
+    ensures { λ r. ⌜ r ≡ grammar.asked code ⌝ }
 {
     match code {
-        END => then(0, Mark::End),
-        ADD => then(ADD_WORDS, Mark::End),
-        CONTROLS => then(CONTROLS_WORDS, Mark::End),
-        AIM => then(AIM_WORDS, Mark::End),
-        DRIVE => then(STEP_WORDS, Mark::Bodies),
-        READ => then(READ_WORDS, Mark::End),
-        _ => then(0, Mark::Bad),
+        END => Asked::End,
+        ADD => Asked::Add,
+        CONTROLS => Asked::Controls,
+        AIM => Asked::Aim,
+        DRIVE => Asked::Drive,
+        READ => Asked::Read,
+        _ => Asked::Unknown,
+    }
+}
+
+// After a code.
+fn after_asked(asked: Asked) -> Place
+    ensures { λ r. ⌜ r ≡ grammar.afterAsked asked ⌝ }
+{
+    match asked {
+        Asked::End => then(0, Mark::End),
+        Asked::Add => then(ADD_FLOATS, Mark::End),
+        Asked::Controls => then(0, Mark::Wheel(CONTROLS_FLOATS)),
+        Asked::Aim => then(AIM_FLOATS, Mark::End),
+        Asked::Drive => then(STEP_FLOATS, Mark::Bodies),
+        Asked::Read => then(0, Mark::Wheel(READ_FLOATS)),
+        Asked::Unknown => then(0, Mark::Bad),
     }
 }
 
@@ -42,7 +77,7 @@ fn bodies(n: u32) -> Place
     if n == 0 {
         then(0, Mark::Answers)
     } else {
-        then(BODY_WORDS, Mark::Flag(n - 1))
+        then(BODY_FLOATS, Mark::Flag(n - 1))
     }
 }
 
@@ -53,14 +88,14 @@ fn answers(n: u32) -> Mark
     if n == 0 { Mark::End } else { Mark::Kind(n - 1) }
 }
 
-// After an answer's kind, and what follows the answer.
-fn after_kind(kind: u32, mark: Mark) -> Place
-    ensures { λ r. ⌜ r ≡ grammar.afterKind kind mark ⌝ }
+// After the kind of an answer that n more follow.
+fn after_kind(kind: u32, n: u32) -> Place
+    ensures { λ r. ⌜ r ≡ grammar.afterKind kind n ⌝ }
 {
     match kind {
-        NOTHING => then(0, mark),
-        HIT => then(HIT_WORDS, mark),
-        HIT_UP => then(HIT_UP_WORDS, mark),
+        NOTHING => then(0, answers(n)),
+        HIT => then(HIT_FLOATS, Mark::Named(n)),
+        HIT_UP => then(HIT_UP_FLOATS, Mark::Named(n)),
         _ => then(0, Mark::Bad),
     }
 }
@@ -81,11 +116,13 @@ fn follow(mark: Mark, word: u32) -> Place
     ensures { λ r. ⌜ r ≡ grammar.follow mark word ⌝ }
 {
     match mark {
-        Mark::Code => after_code(word),
+        Mark::Code => after_asked(asked(word)),
+        Mark::Wheel(k) => then(k, Mark::End),
         Mark::Bodies => limited(BODIES, word, bodies(word)),
         Mark::Flag(n) => limited(DYNAMIC, word, bodies(n)),
         Mark::Answers => limited(ANSWERS, word, then(0, answers(word))),
-        Mark::Kind(n) => after_kind(word, answers(n)),
+        Mark::Kind(n) => after_kind(word, n),
+        Mark::Named(n) => then(0, answers(n)),
         Mark::End => then(0, Mark::Bad),
         Mark::Bad => then(0, Mark::Bad),
     }
@@ -96,8 +133,8 @@ pub fn next(place: Place, word: u32) -> Place
     ensures { λ r. ⌜ r ≡ grammar.next place word ⌝ }
 {
     let mark = place.mark;
-    if place.plain > 0 {
-        then(place.plain - 1, mark)
+    if is_float(place) {
+        then(place.floats - 1, mark)
     } else {
         follow(mark, word)
     }
@@ -108,7 +145,7 @@ pub fn verdict(place: Place) -> Verdict
     ensures { λ r. ⌜ r ≡ grammar.verdict place ⌝ }
 {
     let mark = place.mark;
-    if place.plain > 0 {
+    if is_float(place) {
         return Verdict::More;
     }
     match mark {

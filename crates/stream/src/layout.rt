@@ -1,60 +1,64 @@
 // The numbers of the scenario stream: document 01, "Scenario program", and the field order of docs/STREAM.md.
-// A group of a number holds seven bits: a byte from here on has its top bit set.
+// A group of a number holds so many bits, and a byte from GROUP on has its top bit set.
+pub const GROUP_BITS: u32 = 7;
+
 pub const GROUP: u8 = 128;
 
-// The last group that 32 bits reach into, counted from 0, and the most that it holds.
-pub const LAST: usize = 4;
+// How many bits a float has, and a whole number at most.
+pub const FLOAT_BITS: u32 = 32;
 
-pub const LAST_MOST: u8 = 15;
+pub const WHOLE_BITS: u32 = 32;
 
-// The codes, and how many words follow them.
+// The codes, and how many floats follow them.
 pub const END: u32 = 0;
 
 pub const ADD: u32 = 1;
 
-pub const ADD_WORDS: u32 = 18;
+pub const ADD_FLOATS: u32 = 18;
 
 pub const CONTROLS: u32 = 2;
 
-pub const CONTROLS_WORDS: u32 = 7;
+pub const CONTROLS_FLOATS: u32 = 6;
 
 pub const AIM: u32 = 3;
 
-pub const AIM_WORDS: u32 = 26;
+pub const AIM_FLOATS: u32 = 26;
 
 pub const DRIVE: u32 = 4;
 
-pub const STEP_WORDS: u32 = 1;
+pub const STEP_FLOATS: u32 = 1;
 
 pub const READ: u32 = 5;
 
-pub const READ_WORDS: u32 = 1;
+pub const READ_FLOATS: u32 = 0;
 
-// The bodies of a drive: how many at most, the words of each, and the most that its flag may be.
+// The bodies of a drive: how many at most, the floats of each, and the most that its flag may be.
 pub const BODIES: u32 = 64;
 
-pub const BODY_WORDS: u32 = 16;
+pub const BODY_FLOATS: u32 = 16;
 
 pub const DYNAMIC: u32 = 1;
 
-// The answers of a drive: how many at most, their kinds, and how many words follow these.
+// The answers of a drive: how many at most, their kinds, and how many floats follow these.
 pub const ANSWERS: u32 = 16;
 
 pub const NOTHING: u32 = 0;
 
 pub const HIT: u32 = 1;
 
-pub const HIT_WORDS: u32 = 5;
+pub const HIT_FLOATS: u32 = 4;
 
 pub const HIT_UP: u32 = 2;
 
-pub const HIT_UP_WORDS: u32 = 8;
+pub const HIT_UP_FLOATS: u32 = 7;
 
-// The longest code: a drive of every body, and every answer with its upward normal.
-pub const ANSWERS_WORDS: u32 = 1 + ANSWERS * (1 + HIT_UP_WORDS);
+// The longest code: a drive of every body, and every answer with its upward normal. Its bytes are counted as if each word were a float.
+pub const ANSWER_WORDS: u32 = 1 + HIT_UP_FLOATS + 1;
 
-pub const BODIES_WORDS: u32 = 1 + BODIES * (BODY_WORDS + 1) + ANSWERS_WORDS;
+pub const ANSWERS_WORDS: u32 = 1 + ANSWERS * ANSWER_WORDS;
 
-pub const CODE_WORDS: usize = (1 + STEP_WORDS + BODIES_WORDS) as usize;
+pub const BODIES_WORDS: u32 = 1 + BODIES * (BODY_FLOATS + 1) + ANSWERS_WORDS;
 
-pub const CODE_BYTES: usize = CODE_WORDS * (LAST + 1);
+pub const CODE_WORDS: usize = (1 + STEP_FLOATS + BODIES_WORDS) as usize;
+
+pub const CODE_BYTES: usize = CODE_WORDS * (FLOAT_BITS / GROUP_BITS + 1) as usize;

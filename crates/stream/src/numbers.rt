@@ -1,7 +1,9 @@
 // Document 01, "Scenario program": one number.
 use super::Number;
 use super::layout::*;
+ghost use Prim.Native.Nat.{_≤_};
 ghost use mathlib.Core.Path.{_≡_};
+ghost use Rattle.stream.specs.Layout as layout;
 ghost use Rattle.stream.specs.Number.{badGroup, readNumber};
 
 // A byte as a word.
@@ -11,22 +13,37 @@ fn wide(b: u8) -> u32
     b as u32
 }
 
-// Whether the k-th group, counted from 0, cannot be b.
-fn bad_group(k: usize, b: u8) -> bool
-    ensures { λ r. ⌜ r ≡ badGroup k b ⌝ }
+// The last group that so many bits reach into, counted from 0.
+fn last(bits: u32) -> usize
+    ensures { λ r. ⌜ r ≡ layout.last bits ⌝ }
+{
+    (bits / GROUP_BITS) as usize
+}
+
+// The most that it holds.
+fn last_most(bits: u32) -> u8
+    ensures { λ r. ⌜ r ≡ layout.lastMost bits ⌝ }
+{
+    (1u8 << (bits % GROUP_BITS)) - 1
+}
+
+// Whether the k-th group of a number of so many bits, counted from 0, cannot be b.
+fn bad_group(bits: u32, k: usize, b: u8) -> bool
+    ensures { λ r. ⌜ r ≡ badGroup bits k b ⌝ }
 {
     if b == 0 {
         k > 0
-    } else if k == LAST {
-        b > LAST_MOST
+    } else if k == last(bits) {
+        b > last_most(bits)
     } else {
         false
     }
 }
 
-// What stands at the start of the bytes. `unit` is what the next group's lowest bit is worth.
-pub fn read_number(bytes: &[u8]) -> Number
-    ensures { λ r. ⌜ r ≡ readNumber (now (bytes .entry)) ⌝ }
+// What stands at the start of the bytes: a number of at most so many bits, which a word holds. `unit` is what the next group's lowest bit is worth.
+pub fn read_number(bits: u32, bytes: &[u8]) -> Number
+    requires { ⌜ bits ≤ 32 ⌝ }
+    ensures { λ r. ⌜ r ≡ readNumber bits (now (bytes .entry)) ⌝ }
 {
     let mut k = 0usize;
     let mut unit = 1u32;
@@ -36,7 +53,7 @@ pub fn read_number(bytes: &[u8]) -> Number
             break Number::Short;
         }
         let b = bytes[k];
-        if bad_group(k, b) {
+        if bad_group(bits, k, b) {
             break Number::Bad;
         }
         value += wide(b % GROUP) * unit;

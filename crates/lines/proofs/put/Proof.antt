@@ -1,6 +1,6 @@
 -- `lines::put` meets its contract. Assumes nothing.
 use borrow.Author.Needs.{needs}
-use Rattle.lines.proofs.Puts.{puts-one}
+use Rattle.lists.proofs.Puts.{puts-one}
 use Rattle.lines.proofs.put.Statement.{statement}
 use Rattle.lines.proofs.put.Tie as tie
 

@@ -2,7 +2,7 @@
 use borrow.Author.Needs.{needs}
 use Prim.Native.Nat.{_-_}
 use lib.ListN.{length}
-use Rattle.lines.proofs.Puts.{Copied, none-copied, one-copied, all-copied}
+use Rattle.lists.proofs.Puts.{Copied, none-copied, one-copied, all-copied}
 use Rattle.lines.proofs.put_all.Statement.{statement}
 use Rattle.lines.proofs.put_all.Tie as tie
 
@@ -33,7 +33,7 @@ loop-less c = search needs
 loop-again : tie.Need-loop-again Inv-loop μ-loop
 loop-again c =
     let at = c .before in
-    one-copied (at .before .loop .inv) (at .before .before .pre) (at .loop-test .taken)
+    one-copied (at .before .loop .inv) (at .before .before .pre) _ (at .loop-test .taken)
 
 add-result : tie.Need-add-result Inv-loop μ-loop
 add-result c = search needs

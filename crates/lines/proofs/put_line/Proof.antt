@@ -5,7 +5,7 @@ use native.Mathlib.Omega.{arith}
 use Prim.Native.Nat.{_+_, _*_}
 use Rattle.lines.specs.Layout.{TEN-DIGITS, HEX-DIGITS, RESULTS}
 use Rattle.lines.specs.Line.{line}
-use Rattle.lines.proofs.Puts.{Near, near-start, near-more, puts-join}
+use Rattle.lists.proofs.Puts.{Near, near-start, near-more, puts-join}
 use Rattle.lines.proofs.Digits.{length-decimal, length-results}
 use Rattle.lines.proofs.put_line.Statement.{statement}
 use Rattle.lines.proofs.put_line.Tie as tie
@@ -44,7 +44,7 @@ listed : (c : tie.After-put-results) →
     Near (s .args .out .now) (c .put-results .last .1 .0) (s .args .at) (c .put-results .result) (0 + TEN-DIGITS + 1 + TEN-DIGITS + RESULTS * (1 + HEX-DIGITS))
 listed c =
     let s = from-code (from-space (from-answer (from-results c))) in
-    near-more (RESULTS * (1 + HEX-DIGITS)) (answered (from-results c)) (c .put-results .ensures) (omega (arith, length-results (s .args .results .now), s .pre .0)) (c .put-results .kept .1 .0)
+    near-more (RESULTS * (1 + HEX-DIGITS)) (answered (from-results c)) (c .put-results .ensures) (omega (arith, length-results HEX-DIGITS (s .args .results .now), s .pre .0)) (c .put-results .kept .1 .0)
 
 put-requires : tie.Need-put-requires
 put-requires c κs = omega (arith, coded (c .before .before .before))

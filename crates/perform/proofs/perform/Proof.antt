@@ -1,83 +1,104 @@
 -- `perform::perform` meets its contract: the definition, replayed as the code runs. Assumes nothing.
 use borrow.Author.Needs.{needs}
-use mathlib.Core.List.{[]}
-use mathlib.Core.Path.{_≡_, refl, sym}
-use lib.Ieee.{binary32}
-use Rattle.lists.specs.Pick.{pick}
-use Rattle.lists.proofs.Picks.{picks}
-use Rattle.refusals.specs.After.{after}
+use mathlib.Core.Path.{_≡_, sym, _∙_}
 use Rattle.vehicle.specs.Controls.{setControls}
+use Rattle.stream.specs.declared.Asked.{Asked}
+use Rattle.stream.specs.Grammar.{asked}
+use Rattle.scenario.specs.Format.{format}
 use Rattle.scenario.specs.Decode.{numberFrom, wheelFrom, controlsFrom}
-use Rattle.lines.proofs.Puts.{paste-nil}
-use Rattle.perform.specs.Call.{answered, callOf}
-use Rattle.perform.proofs.Told.{told-number}
+use Rattle.perform.specs.Call.{callFor, callOf}
+use Rattle.perform.proofs.Told.{told-number, told-none}
 use Rattle.perform.proofs.perform.Statement.{statement}
 use Rattle.perform.proofs.perform.Tie as tie
 
-call-drive-requires : tie.Need-call-drive-requires
+abbrev start : tie.After-asked → tie.Start
+start c = c .before .before .before .before .before .before
+
+-- what the words ask for is what was found to be asked
+asks : (c : tie.After-asked) (a : Asked) → c .asked .result ≡ a → asked (numberFrom (start c .args .words .now) 0) ≡ a
 unfolding numberFrom
+asks c a e = sym (c .asked .ensures) ∙ e
+
+call-drive-requires : tie.Need-call-drive-requires
 call-drive-requires c κs =
     let arm = c .before .before .before in
-    let start = arm .before .before .before .before .before .before in
-    let counted = start .pre .4 (arm .match .keys4) in
+    let found = arm .before .before in
+    let counted = start found .pre .4 (asks found _ (arm .enum-told5 .given .1)) in
     search needs
 
 returns : tie.Need-returns
-unfolding callOf numberFrom pick
+unfolding callOf callFor
 returns c =
-    let call = c .before .before .before .before in
-    rw (call .before .before .before .match .keys1) (told-number _ _ _ _ _ (call .call-add .ensures))
+    let arm = c .before in
+    rw (asks (arm .before .before) _ (arm .enum-told .given .1)) (told-none _ _ _ _ (c .no-call .ensures))
 
 returns-2 : tie.Need-returns-2
-unfolding callOf numberFrom pick
+unfolding callOf callFor
 returns-2 c =
     let call = c .before .before .before .before in
-    let a = call .before .before .before .before .before .before .before .before .before .args in
-    rw (call .before .before .before .match .keys2)
-    (told-number _ _ _ (setControls binary32 (a .table .now) (a .whole .now) (wheelFrom (a .words .now)) (controlsFrom (a .words .now))) _ (call .call-controls .ensures))
+    let arm = call .before .before .before in
+    rw (asks (arm .before .before) _ (arm .enum-told2 .given .1)) (told-number _ _ _ _ _ (call .call-add .ensures))
 
 returns-3 : tie.Need-returns-3
-unfolding callOf numberFrom pick
+unfolding callOf callFor
 returns-3 c =
-    let call = c .before .before .before .before .before .before in
-    rw (call .before .before .before .before .match .keys3) (call .call-aim .ensures)
+    let call = c .before .before .before .before in
+    let arm = call .before .before .before in
+    let a = start (arm .before .before) .args in
+    rw (asks (arm .before .before) _ (arm .enum-told3 .given .1))
+    (told-number _ _ _ (setControls format (a .table .now) (a .whole .now) (wheelFrom (a .words .now)) (controlsFrom format (a .words .now))) _ (call .call-controls .ensures))
 
 returns-4 : tie.Need-returns-4
-unfolding callOf numberFrom pick
+unfolding callOf callFor
 returns-4 c =
     let call = c .before .before .before .before .before .before in
-    rw (call .before .before .before .before .match .keys4) (call .call-drive .ensures)
+    let arm = call .before .before .before .before in
+    rw (asks (arm .before .before) _ (arm .enum-told4 .given .1)) (call .call-aim .ensures)
 
 returns-5 : tie.Need-returns-5
-unfolding callOf numberFrom pick
+unfolding callOf callFor
 returns-5 c =
-    let call = c .before .before in
-    rw (call .before .before .before .before .match .keys5) (call .call-read .ensures)
+    let call = c .before .before .before .before .before .before in
+    let arm = call .before .before .before .before in
+    rw (asks (arm .before .before) _ (arm .enum-told5 .given .1)) (call .call-drive .ensures)
 
 returns-6 : tie.Need-returns-6
-unfolding callOf numberFrom
+unfolding callOf callFor
 returns-6 c =
-    let a = c .before .before .before .before .before .before .args in
-    let ended : after (answered 0 []) (a .table .now) (a .whole .now) ≡ callOf (a .words .now) (a .table .now) (a .whole .now) = search picks depth 40 fits 4000 in
-    rw (← ended) (record { number = refl; count = refl; lent = sym (paste-nil (a .results .now) 0); table = refl; whole = refl })
+    let call = c .before .before in
+    let arm = call .before .before .before .before in
+    rw (asks (arm .before .before) _ (arm .enum-told6 .given .1)) (call .call-read .ensures)
+
+returns-7 : tie.Need-returns-7
+unfolding callOf callFor
+returns-7 c =
+    let arm = c .before in
+    rw (asks (arm .before .before) _ (arm .enum-told7 .given .1)) (told-none _ _ _ _ (c .no-call2 .ensures))
 
 pub perform-spec : {M : Type 1} → statement M
 perform-spec =
     tie.close
     (tie.spec
     (λ c. search needs)
+    (λ c κs. tt)
+    (λ c. search needs)
+    (λ c κs. tt)
+    (λ c. search needs)
     (λ c κs. search needs)
+    (λ c. search needs)
     (λ c κs. search needs)
+    (λ c. search needs)
     (λ c κs. search needs)
+    (λ c. search needs)
     call-drive-requires
+    (λ c. search needs)
     (λ c κs. search needs)
     (λ c. search needs)
-    (λ c. search needs)
+    (λ c κs. tt)
     returns
     (λ c. search needs)
     (λ c. search needs)
     returns-2
-    (λ c. search needs)
     (λ c. search needs)
     (λ c. search needs)
     returns-3
@@ -89,4 +110,8 @@ perform-spec =
     (λ c. search needs)
     (λ c. search needs)
     returns-5
-    returns-6)
+    (λ c. search needs)
+    (λ c. search needs)
+    (λ c. search needs)
+    returns-6
+    returns-7)

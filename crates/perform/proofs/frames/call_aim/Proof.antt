@@ -3,12 +3,12 @@ use borrow.Author.Needs.{needs}
 use native.Mathlib.Omega.{arith}
 use Prim.Native.Nat.{_≤_}
 use mathlib.Core.Path.{_≡_}
-use lib.Ieee.{binary32}
 use Rattle.table.specs.Layout as at
 use Rattle.refusals.specs.Shape.{countOf}
 use Rattle.refusals.specs.After.{after}
 use Rattle.drive.specs.Aim.{aimOf}
 use Rattle.drive.proofs.Accepted.{accepted-aim-says}
+use Rattle.scenario.specs.Format.{format}
 use Rattle.scenario.specs.Decode.{chassisFrom}
 use Rattle.perform.specs.Call.{aimResults}
 use Rattle.perform.proofs.Told.{told-refused, told-accepted}
@@ -22,20 +22,20 @@ decoded c = c .before .before .before .before
 abbrev start : tie.After-aim → tie.Start
 start c = decoded c .before .before .before .before .before
 
-aimed : (c : tie.After-aim) → let a = start c .args in after (c .aim .result) (c .aim .last .0) (c .aim .last .1 .0) ≡ aimOf binary32 (a .table .now) (a .whole .now) (chassisFrom (a .words .now))
+aimed : (c : tie.After-aim) → let a = start c .args in after (c .aim .result) (c .aim .last .0) (c .aim .last .1 .0) ≡ aimOf format (a .table .now) (a .whole .now) (chassisFrom format (a .words .now))
 aimed c = rw (decoded c .chassis-from .ensures) at (c .aim .ensures)
 
 abbrev from-accepted : tie.Else1 → tie.After-aim
 from-accepted c = c .before .before .before .before .before
 
 room : (c : tie.Else1) → countOf (start (from-accepted c) .args .whole .now) ≤ at.WHEELS
-room c = accepted-aim-says binary32 _ _ _ (aimed (from-accepted c)) (c .if1 .left) .shape .room
+room c = accepted-aim-says format _ _ _ (aimed (from-accepted c)) (c .if1 .left) .shape .room
 
 returns : tie.Need-returns
 returns c =
     let call = c .before .before .before .before .before in
     let m = start call .args .whole .now in
-    told-refused _ (aimResults (countOf m)) (call .aim .result) _ _ _ (aimed call) _ (c .if1 .taken)
+    told-refused _ (aimResults format (countOf m)) (call .aim .result) _ _ _ (aimed call) _ (c .if1 .taken)
 
 cast-put-aimed : tie.Need-cast-put-aimed
 cast-put-aimed c = let h = room (c .before) in omega arith
@@ -49,7 +49,7 @@ returns-2 c =
     let accepted = put .before .before in
     let call = from-accepted accepted in
     let m = start call .args .whole .now in
-    told-accepted _ (aimResults (countOf m)) (call .aim .result) _ _ _ (aimed call) _ _ _ (accepted .if1 .left) (put .put-aimed .ensures)
+    told-accepted _ (aimResults format (countOf m)) (call .aim .result) _ _ _ (aimed call) _ _ _ (accepted .if1 .left) (put .put-aimed .ensures)
 
 pub call-aim-spec : {M : Type 1} → statement M
 call-aim-spec =

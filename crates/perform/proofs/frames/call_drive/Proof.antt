@@ -1,5 +1,6 @@
 -- `perform::frames::call_drive` meets its contract: refused, or its results are put. Assumes nothing.
 use borrow.Author.Needs.{needs}
+use Rattle.scenario.specs.Format.{format}
 use Rattle.perform.specs.Call.{driveResults}
 use Rattle.perform.proofs.Told.{told-refused, told-accepted}
 use Rattle.perform.proofs.frames.call_drive.Statement.{statement}
@@ -8,14 +9,14 @@ use Rattle.perform.proofs.frames.call_drive.Tie as tie
 returns : tie.Need-returns
 returns c =
     let call = c .before .before .before .before .before in
-    told-refused _ driveResults (call .drive-frame .result) _ _ _ (call .drive-frame .ensures) _ (c .if1 .taken)
+    told-refused _ (driveResults format) (call .drive-frame .result) _ _ _ (call .drive-frame .ensures) _ (c .if1 .taken)
 
 returns-2 : tie.Need-returns-2
 returns-2 c =
     let put = c .before .before in
     let accepted = put .before .before in
     let call = accepted .before .before .before .before .before in
-    told-accepted _ driveResults (call .drive-frame .result) _ _ _ (call .drive-frame .ensures) _ _ _ (accepted .if1 .left) (put .put-driven .ensures)
+    told-accepted _ (driveResults format) (call .drive-frame .result) _ _ _ (call .drive-frame .ensures) _ _ _ (accepted .if1 .left) (put .put-driven .ensures)
 
 pub call-drive-spec : {M : Type 1} → statement M
 call-drive-spec =

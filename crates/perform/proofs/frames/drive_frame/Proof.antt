@@ -21,7 +21,7 @@ returns c =
     let bodies = flags .before .before .before in
     let count = bodies .before .before in
     rw (
-      front-of-bodies _ _ _ _ (bodies .decode-bodies .ensures),
+      front-of-bodies _ _ _ _ _ (bodies .decode-bodies .ensures),
       front-of-flags _ _ _ _ (flags .decode-flags .ensures),
       count .body-count-from .ensures,
     ) at (call .drive-on .ensures)

@@ -2,7 +2,7 @@
 use borrow.Author.Needs.{needs}
 use mathlib.Core.Path.{refl}
 use native.Mathlib.Omega.{arith}
-use Rattle.lines.proofs.Puts.{puts-join}
+use Rattle.lists.proofs.Puts.{puts-join}
 use Rattle.scenario.specs.Results.{wordsOf}
 use Rattle.perform.specs.Call.{aimResults}
 use Rattle.perform.proofs.results.put_aimed.Statement.{statement}
@@ -13,7 +13,7 @@ unfolding aimResults wordsOf
 returns c =
     let sights = c .before .before in
     let speed = sights .before .before .before .before in
-    puts-join (record { bytes = speed .put-float .ensures; end = refl }) (sights .put-sights .ensures) (omega arith)
+    puts-join (record { put = speed .put-float .ensures; end = refl }) (sights .put-sights .ensures) (omega arith)
 
 pub put-aimed-spec : {M : Type 1} → statement M
 put-aimed-spec = tie.close (tie.spec (λ c κs. search needs) (λ c κs. search needs) (λ c. search needs) returns)

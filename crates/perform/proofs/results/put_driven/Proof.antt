@@ -2,7 +2,7 @@
 use borrow.Author.Needs.{needs}
 use mathlib.Core.Path.{refl}
 use native.Mathlib.Omega.{arith}
-use Rattle.lines.proofs.Puts.{puts-join}
+use Rattle.lists.proofs.Puts.{puts-join}
 use Rattle.scenario.specs.Results.{wordsOf}
 use Rattle.perform.specs.Call.{driveResults}
 use Rattle.perform.proofs.results.put_driven.Statement.{statement}
@@ -13,7 +13,7 @@ unfolding driveResults wordsOf
 returns c =
     let flag = c .before .before in
     let numbers = flag .before .before .before .before in
-    puts-join (record { bytes = numbers .put-numbers .ensures; end = refl }) (record { bytes = flag .put-flag .ensures; end = refl }) (omega arith)
+    puts-join (record { put = numbers .put-numbers .ensures; end = refl }) (record { put = flag .put-flag .ensures; end = refl }) (omega arith)
 
 pub put-driven-spec : {M : Type 1} → statement M
 put-driven-spec = tie.close (tie.spec (λ c. search needs) (λ c κs. search needs) (λ c κs. search needs) (λ c. search needs) (λ c. search needs) returns)

@@ -8,7 +8,7 @@ use Rattle.perform.proofs.results.put_reading.Tie as tie
 
 returns : tie.Need-returns
 unfolding readResults wordsOf
-returns c = record { bytes = c .before .before .put-numbers .ensures; end = refl }
+returns c = record { put = c .before .before .put-numbers .ensures; end = refl }
 
 pub put-reading-spec : {M : Type 1} → statement M
 put-reading-spec = tie.close (tie.spec (λ c. search needs) (λ c κs. search needs) (λ c. search needs) returns)

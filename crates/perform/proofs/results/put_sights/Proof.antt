@@ -5,6 +5,7 @@ use Prim.Native.Nat.{_+_, _*_, _-_, _≤_}
 use mathlib.Core.Path.{_≡_, refl}
 use lib.ListN.{take, drop}
 use Rattle.lines.specs.Layout.{WHEEL-RESULTS}
+use Rattle.scenario.specs.Format.{format}
 use Rattle.scenario.specs.Results.{wordsOf}
 use Rattle.perform.specs.Call.{sightNumbers}
 use Rattle.perform.proofs.Putting.{Putting, none-put, part-put, all-put, sights-more, sights-end}
@@ -13,7 +14,7 @@ use Rattle.perform.proofs.results.put_sights.Tie as tie
 
 abbrev Inv-loop : tie.InvT-loop
 Inv-loop words₀ n sights a₀ i₀ words a i =
-    (i ≤ n) × (a ≡ 1 + i * WHEEL-RESULTS) × Putting words₀ words 1 a (wordsOf (sightNumbers (drop i (take n sights)))) (wordsOf (sightNumbers (take n sights)))
+    (i ≤ n) × (a ≡ 1 + i * WHEEL-RESULTS) × Putting words₀ words 1 a (wordsOf format (sightNumbers (drop i (take n sights)))) (wordsOf format (sightNumbers (take n sights)))
 
 abbrev μ-loop : tie.MeasureT-loop
 μ-loop words₀ n sights a₀ i₀ words a i = n - i
@@ -35,7 +36,7 @@ loop-again c =
     let same = l .loop .inv .2 .same in (
       omega arith,
       omega arith,
-      part-put _ _ (l .loop .inv .2) (sights-more (a .t3) (a .n) (l .loop .i) _ (omega arith) (omega arith)) (call .put-sight .ensures) (omega arith),
+      part-put _ _ (l .loop .inv .2) (sights-more format (a .t3) (a .n) (l .loop .i) _ (omega arith) (omega arith)) (call .put-sight .ensures) (omega arith),
     )
 
 same-length : tie.Need-same-length Inv-loop μ-loop
@@ -45,7 +46,7 @@ returns : tie.Need-returns Inv-loop μ-loop
 returns c =
     let l = c .before in
     let a = l .before .before .args in
-    all-put (l .loop .inv .2) (sights-end (a .t3) (a .n) (l .loop .i) (omega arith) (omega arith))
+    all-put (l .loop .inv .2) (sights-end format (a .t3) (a .n) (l .loop .i) (omega arith) (omega arith))
 
 pub put-sights-spec : {M : Type 1} → statement M
 put-sights-spec =

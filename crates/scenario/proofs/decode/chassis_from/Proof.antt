@@ -6,7 +6,7 @@ use Rattle.scenario.proofs.decode.chassis_from.Tie as tie
 
 returns : tie.Need-returns
 unfolding chassisFrom
-returns c = rw (← c .before .before .before .before .before .before .before .vector-from .ensures, ← c .before .before .before .before .before .before .rotation-from .ensures, ← c .before .before .before .before .before .vector-from2 .ensures, ← c .before .before .before .before .vector-from3 .ensures, ← c .before .before .before .vector-from4 .ensures, ← c .before .before .float-from .ensures, ← c .before .inertia-from .ensures, ← c .vector-from5 .ensures)
+returns c = rw (← c .before .before .before .floats-from .ensures, ← c .read-chassis .ensures)
 
 pub chassis-from-spec : {M : Type 1} → statement M
-chassis-from-spec = tie.close (tie.spec (λ c κs. search needs) (λ c κs. search needs) (λ c κs. search needs) (λ c κs. search needs) (λ c κs. search needs) (λ c κs. search needs) (λ c κs. search needs) (λ c κs. search needs) returns)
+chassis-from-spec = tie.close (tie.spec (λ c. search needs) (λ c κs. search needs) (λ c. search needs) (λ c κs. search needs) returns)

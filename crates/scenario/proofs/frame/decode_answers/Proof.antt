@@ -6,19 +6,20 @@ use lib.ListN.{getD}
 use Rattle.lists.proofs.Filling.{Filling, fill-none, fill-more, fill-all}
 use Rattle.stream.specs.Layout as code
 use Rattle.scenario.specs.Layout as at
+use Rattle.scenario.specs.Format.{format}
 use Rattle.scenario.specs.Frame.{answersFrom}
 use Rattle.scenario.proofs.Answers.{answerWords-le, answers-start, answers-more, answers-end}
 use Rattle.scenario.proofs.frame.decode_answers.Statement.{statement}
 use Rattle.scenario.proofs.frame.decode_answers.Tie as tie
 
 abbrev Inv-loop : tie.InvT-loop
-Inv-loop words from na answers₀ a₀ i₀ answers a i = (i ≤ na) × (a + (na - i) * at.HIT-UP-WORDS ≤ code.CODE-WORDS) × Filling answers₀ answers i (answersFrom words a (na - i)) (answersFrom words from na)
+Inv-loop words from na answers₀ a₀ i₀ answers a i = (i ≤ na) × (a + (na - i) * at.HIT-UP-WORDS ≤ code.CODE-WORDS) × Filling answers₀ answers i (answersFrom format words a (na - i)) (answersFrom format words from na)
 
 abbrev μ-loop : tie.MeasureT-loop
 μ-loop words from na answers₀ a₀ i₀ answers a i = na - i
 
 loop-holds : tie.Need-loop-holds Inv-loop μ-loop
-loop-holds c = let a = c .before .args in (omega arith, omega arith, fill-none _ _ _ (answers-start (a .words .now) (a .from) (a .na)))
+loop-holds c = let a = c .before .args in (omega arith, omega arith, fill-none _ _ _ (answers-start format (a .words .now) (a .from) (a .na)))
 
 answer-from-requires : tie.Need-answer-from-requires Inv-loop μ-loop
 answer-from-requires c κs = omega arith
@@ -47,7 +48,7 @@ loop-again c =
     let l = c .before .before .before .before in
     let a = l .before .before .args in
     let few = answerWords-le (getD (a .words .now) (l .loop .a) 0) in
-    let more = answers-more (a .words .now) (l .loop .a) (a .na) (l .loop .i) (omega arith) in (
+    let more = answers-more format (a .words .now) (l .loop .a) (a .na) (l .loop .i) (omega arith) in (
       omega arith,
       rw (c .answer-words .ensures) (omega arith),
       fill-more _ _ _ _ _ _ _ (omega arith) (rw (c .answer-words .ensures, c .before .before .answer-from .ensures) more) (l .loop .inv .2),
@@ -57,7 +58,7 @@ returns : tie.Need-returns Inv-loop μ-loop
 returns c =
     let l = c .before in
     let a = l .before .before .args in
-    fill-all _ _ _ _ _ (omega arith) (answers-end (a .words .now) (l .loop .a) (a .na) (l .loop .i) (omega arith)) (l .loop .inv .2)
+    fill-all _ _ _ _ _ (omega arith) (answers-end format (a .words .now) (l .loop .a) (a .na) (l .loop .i) (omega arith)) (l .loop .inv .2)
 
 pub decode-answers-spec : {M : Type 1} → statement M
 decode-answers-spec =

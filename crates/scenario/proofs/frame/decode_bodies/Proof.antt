@@ -6,19 +6,20 @@ use Rattle.lists.specs.Counted.{listed}
 use Rattle.lists.proofs.Turns.{listed-start, listed-more, listed-end}
 use Rattle.lists.proofs.Filling.{Filling, fill-none, fill-more, fill-all}
 use Rattle.table.specs.Layout as table
+use Rattle.scenario.specs.Format.{format}
 use Rattle.scenario.specs.Frame.{bodyNumberFrom, bodiesFrom}
 use Rattle.scenario.proofs.frame.decode_bodies.Statement.{statement}
 use Rattle.scenario.proofs.frame.decode_bodies.Tie as tie
 
 abbrev Inv-loop : tie.InvT-loop
-Inv-loop words nb bodies₀ most k₀ bodies k = (k ≤ nb * table.BODY) × Filling bodies₀ bodies k (listed (bodyNumberFrom words) (nb * table.BODY - k) k) (bodiesFrom words nb)
+Inv-loop words nb bodies₀ most k₀ bodies k = (k ≤ nb * table.BODY) × Filling bodies₀ bodies k (listed (bodyNumberFrom format words) (nb * table.BODY - k) k) (bodiesFrom format words nb)
 
 abbrev μ-loop : tie.MeasureT-loop
 μ-loop words nb bodies₀ most k₀ bodies k = nb * table.BODY - k
 
 loop-holds : tie.Need-loop-holds Inv-loop μ-loop
 unfolding bodiesFrom
-loop-holds c = let a = c .before .before .args in (omega arith, fill-none _ _ _ (listed-start (bodyNumberFrom (a .words .now)) (a .nb * table.BODY)))
+loop-holds c = let a = c .before .before .args in (omega arith, fill-none _ _ _ (listed-start (bodyNumberFrom format (a .words .now)) (a .nb * table.BODY)))
 
 body-number-from-requires : tie.Need-body-number-from-requires Inv-loop μ-loop
 body-number-from-requires c κs = search needs
@@ -33,7 +34,7 @@ loop-again : tie.Need-loop-again Inv-loop μ-loop
 loop-again c =
     let l = c .before .before in
     let a = l .before .before .before .args in
-    let f = bodyNumberFrom (a .words .now) in
+    let f = bodyNumberFrom format (a .words .now) in
     let more = listed-more f (a .nb * table.BODY) (l .loop .k) (omega arith) in
     (omega arith, fill-more _ _ _ _ _ _ _ (omega arith) (rw (c .body-number-from .ensures) more) (l .loop .inv .1))
 
@@ -44,7 +45,7 @@ returns : tie.Need-returns Inv-loop μ-loop
 returns c =
     let l = c .before in
     let a = l .before .before .before .args in
-    fill-all _ _ _ _ _ (omega arith) (listed-end (bodyNumberFrom (a .words .now)) (a .nb * table.BODY) (l .loop .k) (omega arith)) (l .loop .inv .1)
+    fill-all _ _ _ _ _ (omega arith) (listed-end (bodyNumberFrom format (a .words .now)) (a .nb * table.BODY) (l .loop .k) (omega arith)) (l .loop .inv .1)
 
 pub decode-bodies-spec : {M : Type 1} → statement M
 decode-bodies-spec =

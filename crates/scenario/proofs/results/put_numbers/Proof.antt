@@ -3,6 +3,7 @@ use borrow.Author.Needs.{needs}
 use mathlib.Core.Path.{sym}
 use lib.ListN.{length}
 use Rattle.lists.proofs.Parts.{paste-is}
+use Rattle.scenario.specs.Format.{format}
 use Rattle.scenario.specs.Results.{wordsOf}
 use Rattle.scenario.proofs.Words.{length-words}
 use Rattle.scenario.proofs.results.put_numbers.Statement.{statement}
@@ -11,7 +12,7 @@ use Rattle.scenario.proofs.results.put_numbers.Tie as tie
 returns : tie.Need-returns
 returns c =
     let a = c .before .before .before .before .before .before .args in
-    paste-is (a .words .now) _ (wordsOf (a .numbers .now)) (a .a) (length (a .numbers .now)) (c .before .before .write-numbers .ensures) (sym (length-words (a .numbers .now)))
+    paste-is (a .words .now) _ (wordsOf format (a .numbers .now)) (a .a) (length (a .numbers .now)) (c .before .before .write-numbers .ensures) (sym (length-words format (a .numbers .now)))
 
 pub put-numbers-spec : {M : Type 1} → statement M
 put-numbers-spec = tie.close (tie.spec (λ c. search needs) (λ c. search needs) (λ c. search needs) (λ c. search needs) (λ c. search needs) (λ c κs. search needs) (λ c. search needs) returns)

@@ -6,13 +6,14 @@ use mathlib.Core.Path.{refl, _∙_}
 use lib.ListN.{length, drop}
 use Rattle.lists.proofs.Parts.{paste-all}
 use Rattle.lists.proofs.Filling.{Filling, fill-none, fill-more, fill-all}
+use Rattle.scenario.specs.Format.{format}
 use Rattle.scenario.specs.Results.{wordsOf}
 use Rattle.scenario.proofs.Words.{length-words, words-more, words-end}
 use Rattle.scenario.proofs.results.write_numbers.Statement.{statement}
 use Rattle.scenario.proofs.results.write_numbers.Tie as tie
 
 abbrev Inv-loop : tie.InvT-loop
-Inv-loop words₀ numbers i₀ words i = (i ≤ length numbers) × Filling words₀ words i (wordsOf (drop i numbers)) (wordsOf numbers)
+Inv-loop words₀ numbers i₀ words i = (i ≤ length numbers) × Filling words₀ words i (wordsOf format (drop i numbers)) (wordsOf format numbers)
 
 abbrev μ-loop : tie.MeasureT-loop
 μ-loop words₀ numbers i₀ words i = length numbers - i
@@ -30,7 +31,7 @@ loop-again : tie.Need-loop-again Inv-loop μ-loop
 loop-again c =
     let l = c .before .before .before in
     let a = l .before .before .before .args in
-    let more = words-more (a .numbers .now) (l .loop .i) (omega arith) in
+    let more = words-more format (a .numbers .now) (l .loop .i) (omega arith) in
     (omega arith, fill-more _ _ _ _ _ _ _ (omega arith) (rw (c .bits-of .ensures) more) (l .loop .inv .1))
 
 same-length : tie.Need-same-length Inv-loop μ-loop
@@ -40,8 +41,8 @@ returns : tie.Need-returns Inv-loop μ-loop
 returns c =
     let l = c .before in
     let a = l .before .before .before .args in
-    fill-all _ _ _ _ _ (omega arith) (words-end (a .numbers .now) (l .loop .i) (omega arith)) (l .loop .inv .1)
-    ∙ paste-all (a .words .now) (wordsOf (a .numbers .now)) (rw (length-words (a .numbers .now)) (omega arith))
+    fill-all _ _ _ _ _ (omega arith) (words-end format (a .numbers .now) (l .loop .i) (omega arith)) (l .loop .inv .1)
+    ∙ paste-all (a .words .now) (wordsOf format (a .numbers .now)) (rw (length-words format (a .numbers .now)) (omega arith))
 
 pub write-numbers-spec : {M : Type 1} → statement M
 write-numbers-spec =

@@ -1,9 +1,17 @@
 -- `stream::grammar::next` meets its contract: the definition, replayed as the code runs. Assumes nothing.
-use borrow.Author.Needs.{needs}
+use mathlib.Core.Path.{sym, _∙_}
+use native.Mathlib.Omega.{arith}
+use borrow.Author.Tests.{ltb-true}
 use Rattle.lists.proofs.Picks.{picks}
-use Rattle.stream.specs.Grammar.{next}
+use Rattle.stream.specs.Grammar.{isFloat, next}
 use Rattle.stream.proofs.grammar.next.Statement.{statement}
 use Rattle.stream.proofs.grammar.next.Tie as tie
+
+sub-then : tie.Need-sub-then
+unfolding isFloat
+sub-then c =
+    let at = c .before in
+    omega (arith, ltb-true 0 (at .before .before .args .place .floats) (sym (at .before .is-float .ensures) ∙ at .if1 .taken))
 
 returns : tie.Need-returns
 unfolding next
@@ -14,4 +22,4 @@ unfolding next
 returns-2 c = search picks
 
 pub next-spec : {M : Type 1} → statement M
-next-spec = tie.close (tie.spec (λ c. search needs) (λ c κs. tt) (λ c κs. tt) returns returns-2)
+next-spec = tie.close (tie.spec (λ c κs. tt) sub-then (λ c κs. tt) (λ c κs. tt) returns returns-2)

@@ -1,21 +1,22 @@
 -- `stream::numbers::read_number` meets its contract: the groups that are left give what all give. Assumes nothing.
 use borrow.Author.Needs.{needs}
 use native.Mathlib.Omega.{arith}
-use Prim.Native.Nat.{_-_}
+use Prim.Native.Nat.{_-_, _≤_}
 use mathlib.Core.Path.{sym, _∙_}
-use Rattle.stream.specs.Layout.{LAST}
+use lib.Pow.{pow-mono}
+use Rattle.stream.specs.Layout.{last}
 use Rattle.stream.proofs.Groups.{Groups, none-read, ends-short, ends-bad, ends-value, sum-fits, unit-fits, one-more, not-last}
 use Rattle.stream.proofs.numbers.read_number.Statement.{statement}
 use Rattle.stream.proofs.numbers.read_number.Tie as tie
 
 abbrev Inv-loop : tie.InvT-loop
-Inv-loop bytes k₀ unit₀ value₀ k unit value = Groups bytes k unit value
+Inv-loop bits bytes k₀ unit₀ value₀ k unit value = Groups bits bytes k unit value
 
 abbrev μ-loop : tie.MeasureT-loop
-μ-loop bytes k₀ unit₀ value₀ k unit value = LAST - k
+μ-loop bits bytes k₀ unit₀ value₀ k unit value = last bits - k
 
 loop-holds : tie.Need-loop-holds Inv-loop μ-loop
-loop-holds c = none-read _
+loop-holds c = none-read _ _
 
 shared-slice-read-b : tie.Need-shared-slice-read-b Inv-loop μ-loop
 shared-slice-read-b c = search needs
@@ -24,13 +25,13 @@ mul-value : tie.Need-mul-value Inv-loop μ-loop
 mul-value c =
     let at = c .before .before .before .before in
     let h = sym (c .before .before .bad-group .ensures) ∙ c .before .if2 .left in
-    omega (arith, sum-fits (at .before .loop .inv) (at .if1 .left) _ h (c .wide .ensures))
+    omega (arith, sum-fits (at .before .loop .inv) (at .if1 .left) _ h (c .wide .ensures), pow-mono (at .before .before .before .pre))
 
 add-value : tie.Need-add-value Inv-loop μ-loop
 add-value c =
     let at = c .before .before .before .before in
     let h = sym (c .before .before .bad-group .ensures) ∙ c .before .if2 .left in
-    omega (arith, sum-fits (at .before .loop .inv) (at .if1 .left) _ h (c .wide .ensures))
+    omega (arith, sum-fits (at .before .loop .inv) (at .if1 .left) _ h (c .wide .ensures), pow-mono (at .before .before .before .pre))
 
 add-k : tie.Need-add-k Inv-loop μ-loop
 add-k c = search needs
@@ -39,13 +40,14 @@ mul-unit : tie.Need-mul-unit Inv-loop μ-loop
 mul-unit c =
     let at = c .before .before .before .before .before in
     let h = sym (c .before .before .before .bad-group .ensures) ∙ c .before .before .if2 .left in
-    omega (arith, unit-fits (at .before .loop .inv) (at .if1 .left) _ h (c .before .wide .ensures) (c .if3 .left))
+    let few : last (at .before .before .before .args .bits) ≤ last 32 = omega (arith, at .before .before .before .pre) in
+    omega (arith, unit-fits (at .before .loop .inv) (at .if1 .left) _ h (c .before .wide .ensures) (last 32) few (c .if3 .left))
 
 loop-less : tie.Need-loop-less Inv-loop μ-loop
 loop-less c =
     let at = c .before .before .before .before .before in
     let h = sym (c .before .before .before .bad-group .ensures) ∙ c .before .before .if2 .left in
-    omega (arith, not-last _ _ h (at .before .loop .inv .few) (c .if3 .left))
+    omega (arith, not-last _ _ _ h (at .before .loop .inv .few) (c .if3 .left))
 
 loop-again : tie.Need-loop-again Inv-loop μ-loop
 loop-again c =

@@ -1,0 +1,31 @@
+-- What two layouts say of one number. In order: the counts that the stream's codes and the lent table share; how wide the numbers are. Assumes nothing.
+use mathlib.Core.Path.{_≡_, refl}
+use Rattle.table.specs.Layout as table
+use Rattle.table.specs.Handed as handed
+use Rattle.stream.specs.Layout as code
+use Rattle.scenario.specs.Format.{format, widthsOf}
+
+-- an add's floats are a wheel's settings, and those of controls a wheel's controls
+pub settings-tied : code.ADD-FLOATS ≡ handed.SETTINGS
+settings-tied = refl
+
+pub controls-tied : code.CONTROLS-FLOATS ≡ handed.CONTROLS
+controls-tied = refl
+
+-- an aim's floats are the kept chassis
+pub chassis-tied : code.AIM-FLOATS ≡ table.KEPT
+chassis-tied = refl
+
+-- a body's floats, and how many bodies and wheels there are at most
+pub body-tied : code.BODY-FLOATS ≡ table.BODY
+body-tied = refl
+
+pub bodies-tied : code.BODIES ≡ table.BODIES
+bodies-tied = refl
+
+pub wheels-tied : code.ANSWERS ≡ table.WHEELS
+wheels-tied = refl
+
+-- a code is read as wide as its floats' patterns are
+pub widths-tied : widthsOf format ≡ code.WIDTHS
+widths-tied = refl
