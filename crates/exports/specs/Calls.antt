@@ -9,29 +9,27 @@ use Rattle.refusals.specs.After.{After, settled}
 use Rattle.vehicle.specs.Add.{addWheel}
 use Rattle.vehicle.specs.Controls.{setControls}
 use Rattle.vehicle.specs.declared.Reading.{Reading}
-use Rattle.vehicle.specs.Read.{readWheel}
+use Rattle.vehicle.specs.Read.{READING, readingList, readWheel}
 use Rattle.table.specs.Layout as table
-use Rattle.table.specs.Handed as handed
-use Rattle.table.specs.Rows.{chassisOf}
+use Rattle.table.specs.Rows.{settingsAt, controlsAt, chassisOf}
 use Rattle.drive.specs.declared.Aimed.{Aimed}
 use Rattle.drive.specs.Aim.{aimOf}
 use Rattle.drive.specs.declared.Driven.{Driven}
 use Rattle.drive.specs.Drive.{driveOf}
 use Rattle.exports.specs.Layout as at
 use Rattle.exports.specs.Ends.{Flat, flat, ofLength, flattened}
-use Rattle.exports.specs.Decode.{settingsIn, controlsIn}
 use Rattle.exports.specs.Lists.{listTests, frameIn}
-use Rattle.exports.specs.Results.{readingList, aimedList, drivenList}
+use Rattle.exports.specs.Results.{aimedList, drivenList}
 
 unfoldable pub flatAdd : List Float → List ℕ → List Float → After ℕ
-flatAdd t m settings = settled (firstFailed (ofLength settings handed.SETTINGS ∷ [])) (λ n. n) (addWheel t m (settingsIn settings)) t m
+flatAdd t m settings = settled (firstFailed (ofLength settings table.SETTINGS ∷ [])) (λ n. n) (addWheel t m (settingsAt settings 0)) t m
 
 unfoldable pub flatControls : Format → List Float → List ℕ → ℕ → List Float → After ℕ
-flatControls f t m wheel controls = settled (firstFailed (ofLength controls handed.CONTROLS ∷ [])) (λ n. n) (setControls f t m wheel (controlsIn controls)) t m
+flatControls f t m wheel controls = settled (firstFailed (ofLength controls table.CONTROLS ∷ [])) (λ n. n) (setControls f t m wheel (controlsAt controls 0)) t m
 
 unfoldable pub flatRead : List Float → List ℕ → ℕ → List Float → After Flat
 flatRead t m wheel results =
-    settled (firstFailed (ofLength results at.READ ∷ [])) (λ n. flat n results)
+    settled (firstFailed (ofLength results READING ∷ [])) (λ n. flat n results)
     (flattened (λ (r : Reading). r .number) readingList results (readWheel t m wheel)) t m
 
 unfoldable pub flatAim : Format → List Float → List ℕ → List Float → List Float → After Flat

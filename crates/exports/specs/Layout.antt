@@ -1,5 +1,5 @@
 -- The flat lists that a host hands to the calls, and those that a call writes. Each place is a named constant, counted from the one before it. Definitions only.
--- The table, its whole numbers, a chassis, a ground body, settings and controls are laid out as in crate `table`.
+-- The table, its whole numbers, a chassis, a ground body, settings and controls are laid out as in crate `table`, the results of a read as in crate `vehicle`.
 use Prim.Native.Nat.{ℕ, _+_, _*_}
 use Rattle.table.specs.Layout as table
 
@@ -47,37 +47,6 @@ WAKE = ANGVEL + 3
 
 abbrev pub DRIVE : ℕ
 DRIVE = WAKE + 1
-
--- ---- the results of a read
-abbrev pub CENTRE : ℕ
-CENTRE = 0
-
-abbrev pub WORLD-DIRECTION : ℕ
-WORLD-DIRECTION = CENTRE + 3
-
-abbrev pub WORLD-AXLE : ℕ
-WORLD-AXLE = WORLD-DIRECTION + 3
-
-abbrev pub LENGTH : ℕ
-LENGTH = WORLD-AXLE + 3
-
-abbrev pub FORCE : ℕ
-FORCE = LENGTH + 1
-
-abbrev pub FORWARD : ℕ
-FORWARD = FORCE + 1
-
-abbrev pub SIDE-IMPULSE : ℕ
-SIDE-IMPULSE = FORWARD + 1
-
-abbrev pub SKID : ℕ
-SKID = SIDE-IMPULSE + 1
-
-abbrev pub ROTATION : ℕ
-ROTATION = SKID + 1
-
-abbrev pub READ : ℕ
-READ = ROTATION + 1
 
 -- ---- the kinds of a ray answer: 0 nothing, then a hit, and a hit with the upward normal; and the flag of a dynamic ground body, 0 being that of another
 abbrev pub HIT : ℕ

@@ -1,6 +1,5 @@
 pub mod Layout
 pub mod Ends
-pub mod Decode
 pub mod Lists
 pub mod Results
 pub mod Calls

@@ -1,11 +1,10 @@
--- The results of an accepted call, as the flat list that it writes: the order of docs/STREAM.md. Definitions only.
+-- The results of an accepted aim and drive, as the flat list that it writes: the order of docs/STREAM.md. Definitions only.
 use mathlib.Core.Bool.{Bool}
 use mathlib.Core.List.{List, [], _∷_, _++_}
 use lib.Ieee.{Float}
 use Rattle.lists.specs.Pick.{pick}
 use Rattle.real.specs.Number.{zero, one}
 use Rattle.table.specs.Rows.{vectorList}
-use Rattle.vehicle.specs.declared.Reading.{Reading}
 use Rattle.drive.specs.declared.Sight.{Sight}
 use Rattle.drive.specs.declared.Aimed.{Aimed}
 use Rattle.drive.specs.declared.Driven.{Driven}
@@ -13,13 +12,6 @@ use Rattle.drive.specs.declared.Driven.{Driven}
 -- yes is 1, no 0
 unfoldable pub flagNumber : Bool → Float
 flagNumber b = pick b one zero
-
-unfoldable pub readingList : Reading → List Float
-readingList r =
-    vectorList (r .centre)
-    ++ vectorList (r .direction)
-    ++ vectorList (r .axle)
-    ++ (r .length ∷ r .force ∷ r .forward ∷ r .side ∷ r .skid ∷ r .rotation ∷ [])
 
 unfoldable pub drivenList : Driven → List Float
 drivenList d = vectorList (d .linvel) ++ vectorList (d .angvel) ++ (flagNumber (d .wake) ∷ [])

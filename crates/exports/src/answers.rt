@@ -117,7 +117,7 @@ fn hit_in(named: &[u32], rays: &[f32], i: usize) -> RayAnswer
     ensures { λ r. ⌜ r ≡ hitIn (now (named .entry)) (now (rays .entry)) i ⌝ }
 {
     let a = i * RAY;
-    let normal = table::rows::vector_at(rays, a + NORMAL);
+    let normal = table::parts::vector_at(rays, a + NORMAL);
     RayAnswer::Hit(rays[a + TIME], normal, named[i])
 }
 
@@ -127,8 +127,8 @@ fn hit_up_in(named: &[u32], rays: &[f32], i: usize) -> RayAnswer
     ensures { λ r. ⌜ r ≡ hitUpIn (now (named .entry)) (now (rays .entry)) i ⌝ }
 {
     let a = i * RAY;
-    let normal = table::rows::vector_at(rays, a + NORMAL);
-    let upward = table::rows::vector_at(rays, a + UPWARD);
+    let normal = table::parts::vector_at(rays, a + NORMAL);
+    let upward = table::parts::vector_at(rays, a + UPWARD);
     RayAnswer::HitUp(rays[a + TIME], normal, upward, named[i])
 }
 

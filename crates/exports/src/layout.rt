@@ -1,5 +1,5 @@
 // The flat lists that a host hands to the calls, and those that a call writes: each place is counted from the one before it. A chassis, a
-// ground body, settings and controls are laid out as in crate `table`.
+// ground body, settings and controls are laid out as in crate `table`, the results of a read as in crate `vehicle`.
 use table::layout::WHEELS;
 
 // What a wheel's ray met.
@@ -32,27 +32,6 @@ pub const ANGVEL: usize = LINVEL + 3;
 pub const WAKE: usize = ANGVEL + 3;
 
 pub const DRIVE: usize = WAKE + 1;
-
-// The results of a read.
-pub const CENTRE: usize = 0;
-
-pub const WORLD_DIRECTION: usize = CENTRE + 3;
-
-pub const WORLD_AXLE: usize = WORLD_DIRECTION + 3;
-
-pub const LENGTH: usize = WORLD_AXLE + 3;
-
-pub const FORCE: usize = LENGTH + 1;
-
-pub const FORWARD: usize = FORCE + 1;
-
-pub const SIDE_IMPULSE: usize = FORWARD + 1;
-
-pub const SKID: usize = SIDE_IMPULSE + 1;
-
-pub const ROTATION: usize = SKID + 1;
-
-pub const READ: usize = ROTATION + 1;
 
 // The kinds of a ray answer that met something, the last of which is the highest, and the flag of a dynamic ground body.
 pub const HIT: u32 = 1;

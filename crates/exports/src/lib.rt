@@ -2,24 +2,25 @@
 // numbers and flat lists; a list is a pointer and a length. Each is total on every length and every number, answers the refusal number of its
 // call, and refuses with 1, before all else, a list of settings, controls, chassis or results of the wrong length. Results are written only
 // where the answer is 0.
-use table::handed;
 use table::layout::BODY;
+use table::layout::CONTROLS;
 use table::layout::KEPT;
+use table::layout::SETTINGS;
 use table::layout::SIZE;
 use table::layout::WHOLE;
+use vehicle::read::READING;
 ghost use mathlib.Core.Path.{_≡_};
 ghost use lib.Ieee.{binary32};
 ghost use Rattle.real.specs.Root.{rootOf};
 ghost use Rattle.refusals.specs.After.{after};
 ghost use Rattle.table.specs.Layout as lent;
-ghost use Rattle.table.specs.Handed as handed;
 ghost use Rattle.vehicle.specs.SetUp.{setUp};
+ghost use Rattle.vehicle.specs.Read as read;
 ghost use Rattle.exports.specs.Layout as at;
 ghost use Rattle.exports.specs.Ends.{flat};
 ghost use Rattle.exports.specs.Calls.{flatAdd, flatControls, flatRead, flatAim, flatDrive};
 
 pub mod layout; // where each number stands
-pub mod decode; // what a call is handed
 pub mod answers; // the lists of a drive
 pub mod results; // what a call writes
 
@@ -47,25 +48,11 @@ pub extern "C" fn vehicle_set_up(table: &mut [f32], whole: &mut [u32], up: u32, 
 pub extern "C" fn vehicle_add_wheel(table: &mut [f32], whole: &mut [u32], settings: &[f32]) -> u32
     ensures { λ r. ⌜ after r (now (table .exit)) (now (whole .exit)) ≡ flatAdd (now (table .entry)) (now (whole .entry)) (now (settings .entry)) ⌝ }
 {
-    if settings.len() != handed::SETTINGS {
+    if settings.len() != SETTINGS {
         return 1;
     }
-    let connection = table::rows::vector_at(settings, handed::CONNECTION);
-    let direction = table::rows::vector_at(settings, handed::DIRECTION);
-    let axle = table::rows::vector_at(settings, handed::AXLE);
-    let rest = settings[handed::REST];
-    let radius = settings[handed::RADIUS];
-    let tuning = decode::tuning_in(settings);
-    vehicle::add::add_wheel(
-        table,
-        whole,
-        connection,
-        direction,
-        axle,
-        rest,
-        radius,
-        tuning,
-    )
+    let s = table::parts::settings_at(settings, 0);
+    vehicle::add::add_wheel(table, whole, s)
 }
 
 // Sets the controls of one wheel: `vehicle::controls::set_controls`.
@@ -79,13 +66,11 @@ pub extern "C" fn vehicle_set_controls(
 ) -> u32
     ensures { λ r. ⌜ after r (now (table .exit)) (now (whole .exit)) ≡ flatControls binary32 (now (table .entry)) (now (whole .entry)) wheel (now (controls .entry)) ⌝ }
 {
-    if controls.len() != handed::CONTROLS {
+    if controls.len() != CONTROLS {
         return 1;
     }
-    let engine = controls[handed::ENGINE];
-    let brake = controls[handed::BRAKE];
-    let steering = table::rows::rotation_at(controls, handed::STEERING);
-    vehicle::controls::set_controls(table, whole, wheel, engine, brake, steering)
+    let c = table::parts::controls_at(controls, 0);
+    vehicle::controls::set_controls(table, whole, wheel, c)
 }
 
 // Takes the chassis and writes what the host casts: `drive::aim::aim`.
@@ -155,7 +140,7 @@ pub extern "C" fn vehicle_read_wheel(
 ) -> u32
     ensures { λ r. ⌜ after (flat r (now (results .exit))) (now (table .entry)) (now (whole .entry)) ≡ flatRead (now (table .entry)) (now (whole .entry)) wheel (now (results .entry)) ⌝ }
 {
-    if results.len() != layout::READ {
+    if results.len() != READING {
         return 1;
     }
     let r = vehicle::read::read_wheel(table, whole, wheel);
@@ -182,17 +167,17 @@ pub extern "C" fn vehicle_whole_len() -> u32
 // How many numbers the settings of a wheel are.
 #[no_mangle]
 pub extern "C" fn vehicle_settings_len() -> u32
-    ensures { λ r. ⌜ r ≡ handed.SETTINGS ⌝ }
+    ensures { λ r. ⌜ r ≡ lent.SETTINGS ⌝ }
 {
-    handed::SETTINGS as u32
+    SETTINGS as u32
 }
 
 // How many numbers the controls of a wheel are.
 #[no_mangle]
 pub extern "C" fn vehicle_controls_len() -> u32
-    ensures { λ r. ⌜ r ≡ handed.CONTROLS ⌝ }
+    ensures { λ r. ⌜ r ≡ lent.CONTROLS ⌝ }
 {
-    handed::CONTROLS as u32
+    CONTROLS as u32
 }
 
 // How many numbers a chassis is.
@@ -238,7 +223,7 @@ pub extern "C" fn vehicle_drive_len() -> u32
 // How many numbers a read writes.
 #[no_mangle]
 pub extern "C" fn vehicle_read_len() -> u32
-    ensures { λ r. ⌜ r ≡ at.READ ⌝ }
+    ensures { λ r. ⌜ r ≡ read.READING ⌝ }
 {
-    layout::READ as u32
+    READING as u32
 }

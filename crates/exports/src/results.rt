@@ -13,35 +13,20 @@ ghost use Prim.Native.Nat.{_+_, _*_, _<_};
 ghost use lib.ListN.{length};
 ghost use Rattle.lists.specs.Part.{paste};
 ghost use Rattle.table.specs.Layout as lent;
+ghost use Rattle.vehicle.specs.Read.{READING, readingList};
 ghost use Rattle.exports.specs.Layout as at;
 ghost use Rattle.exports.specs.Ends.{writtenOver};
-ghost use Rattle.exports.specs.Results.{flagNumber, readingList, drivenList, sightList, sightsList, aimedList};
+ghost use Rattle.exports.specs.Results.{flagNumber, drivenList, sightList, sightsList, aimedList};
 
 // The results of a read.
 pub fn put_reading(results: &mut [f32], r: Reading)
-    requires { ⌜ length (now results) ≡ at.READ ⌝ }
+    requires { ⌜ length (now results) ≡ READING ⌝ }
     ensures { λ _. ⌜ now (results .exit) ≡ writtenOver (now (results .entry)) (r .number) (readingList r) ⌝ }
 {
     if r.number != 0 {
         return;
     }
-    let numbers = [
-        r.centre.x,
-        r.centre.y,
-        r.centre.z,
-        r.direction.x,
-        r.direction.y,
-        r.direction.z,
-        r.axle.x,
-        r.axle.y,
-        r.axle.z,
-        r.length,
-        r.force,
-        r.forward,
-        r.side,
-        r.skid,
-        r.rotation,
-    ];
+    let numbers = vehicle::read::reading_numbers(r);
     table::rows::copy(results, &numbers);
 }
 

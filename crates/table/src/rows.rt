@@ -134,26 +134,19 @@ pub fn read_chassis(l: &[f32]) -> Chassis
     requires { ⌜ length (now l) ≡ at.KEPT ⌝ }
     ensures { λ r. ⌜ r ≡ chassisOf (now (l .entry)) ⌝ }
 {
-    let translation = vector_at(l, TRANSLATION);
-    let rotation = rotation_at(l, ORIENTATION);
-    let centre = vector_at(l, MASS_CENTRE);
-    let linvel = vector_at(l, LINVEL);
-    let angvel = vector_at(l, ANGVEL);
-    let inertia = inertia_at(l, INERTIA);
-    let effective = vector_at(l, EFFECTIVE);
     Chassis {
         pose: Pose {
-            translation,
-            rotation,
+            translation: vector_at(l, TRANSLATION),
+            rotation: rotation_at(l, ORIENTATION),
         },
         body: Body {
-            centre,
-            linvel,
-            angvel,
+            centre: vector_at(l, MASS_CENTRE),
+            linvel: vector_at(l, LINVEL),
+            angvel: vector_at(l, ANGVEL),
             invmass: l[INVMASS],
-            inertia,
+            inertia: inertia_at(l, INERTIA),
         },
-        effective,
+        effective: vector_at(l, EFFECTIVE),
     }
 }
 
@@ -216,16 +209,12 @@ fn read_body(l: &[f32]) -> Body
     requires { ⌜ length (now l) ≡ at.BODY ⌝ }
     ensures { λ r. ⌜ r ≡ bodyOf (now (l .entry)) ⌝ }
 {
-    let centre = vector_at(l, BODY_CENTRE);
-    let linvel = vector_at(l, BODY_LINVEL);
-    let angvel = vector_at(l, BODY_ANGVEL);
-    let inertia = inertia_at(l, BODY_INERTIA);
     Body {
-        centre,
-        linvel,
-        angvel,
+        centre: vector_at(l, BODY_CENTRE),
+        linvel: vector_at(l, BODY_LINVEL),
+        angvel: vector_at(l, BODY_ANGVEL),
         invmass: l[BODY_INVMASS],
-        inertia,
+        inertia: inertia_at(l, BODY_INERTIA),
     }
 }
 

@@ -1,6 +1,6 @@
 -- `exports::results::put_reading` meets its contract: a refusal leaves the list, and the numbers in order are copied. Assumes nothing.
+use mathlib.Core.Path.{_∙_}
 use borrow.Author.Needs.{needs}
-use Rattle.exports.specs.Results.{readingList}
 use Rattle.exports.proofs.Ending.{left-of-refused, written-of-accepted}
 use Rattle.exports.proofs.results.put_reading.Statement.{statement}
 use Rattle.exports.proofs.results.put_reading.Tie as tie
@@ -9,8 +9,9 @@ returns : tie.Need-returns
 returns c = left-of-refused _ _ _ (c .if1 .taken)
 
 returns-2 : tie.Need-returns-2
-unfolding readingList
-returns-2 c = written-of-accepted _ _ _ _ (c .before .before .before .before .before .if1 .left) (c .before .before .copy .ensures)
+returns-2 c =
+    let n = c .before .before .before .before .before in
+    written-of-accepted _ _ _ _ (n .before .if1 .left) (c .before .before .copy .ensures ∙ n .reading-numbers .ensures)
 
 pub put-reading-spec : {M : Type 1} → statement M
-put-reading-spec = tie.close (tie.spec returns (λ c. search needs) (λ c κs. search needs) (λ c. search needs) returns-2)
+put-reading-spec = tie.close (tie.spec returns (λ c κs. tt) (λ c. search needs) (λ c κs. search needs) (λ c. search needs) returns-2)
