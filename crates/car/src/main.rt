@@ -5,12 +5,14 @@ use body::Chassis;
 use drive::Driven;
 use table::layout::BODY;
 use table::layout::SIZE;
+use tyre::WheelTuning;
 use vector::Inertia;
 use vector::Pose;
 use vector::Rotation;
 use vector::Vector;
-use vehicle::WheelTuning;
+use wheel::Controls;
 use wheel::RayAnswer;
+use wheel::Settings;
 
 mod show; // printing
 mod refusals_met; // each refusal number by a call
@@ -58,28 +60,41 @@ fn tuning(slip: f32) -> WheelTuning {
         compression: 2.0,
         damping: 2.0,
         travel: 0.5,
-        side: 1.0,
+        sideways: 1.0,
         slip,
         most: 1024.0,
     }
 }
 
+// A wheel that hangs down from a point.
+fn at(connection: Vector, radius: f32, tuning: WheelTuning) -> Settings {
+    Settings {
+        connection,
+        direction: v(0.0, -1.0, 0.0),
+        axle: v(0.0, 0.0, 1.0),
+        rest: 1.0,
+        radius,
+        tuning,
+    }
+}
+
 fn add(table: &mut [f32], whole: &mut [u32], x: f32, z: f32, slip: f32) {
-    let number = vehicle::add::add_wheel(
-        table,
-        whole,
-        v(x, 0.0, z),
-        v(0.0, -1.0, 0.0),
-        v(0.0, 0.0, 1.0),
-        1.0,
-        1.0,
-        tuning(slip),
-    );
+    let settings = at(v(x, 0.0, z), 1.0, tuning(slip));
+    let number = vehicle::add::add_wheel(table, whole, settings);
     show::line(b"add", number);
 }
 
+// Controls that steer straight on.
+fn straight(engine: f32, brake: f32) -> Controls {
+    Controls {
+        engine,
+        brake,
+        steering: identity(),
+    }
+}
+
 fn control(table: &mut [f32], whole: &mut [u32], wheel: u32, engine: f32, brake: f32) {
-    let number = vehicle::controls::set_controls(table, whole, wheel, engine, brake, identity());
+    let number = vehicle::controls::set_controls(table, whole, wheel, straight(engine, brake));
     show::line(b"controls", number);
 }
 
@@ -95,7 +110,7 @@ fn on_the_ground() -> [RayAnswer; 16] {
 fn go(table: &mut [f32], whole: &mut [u32], answers: [RayAnswer; 16]) -> Driven {
     let bodies = [0.0; 0];
     let dynamic = [false; 0];
-    drive::drive::drive(table, whole, 0.5, &bodies, &dynamic, answers, 4)
+    drive::advance::drive(table, whole, 0.5, &bodies, &dynamic, answers, 4)
 }
 
 // An aim with this velocity, and a drive with what the rays met.

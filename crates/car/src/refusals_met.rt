@@ -1,14 +1,15 @@
 // Each refusal number, met by a call: 1, 3, 4, 5, 6, 2, 10, 7 and 8. Each line names the call and shows its number.
+use super::at;
 use super::chassis;
 use super::go;
-use super::identity;
 use super::on_the_ground;
 use super::show;
+use super::straight;
 use super::tuning;
 use super::v;
 use table::layout::KEPT;
 use table::layout::SIZE;
-use vehicle::WheelTuning;
+use tyre::WheelTuning;
 
 // Refusal 1, of the driven car's table.
 pub fn set_up(table: &mut [f32], whole: &mut [u32]) {
@@ -26,11 +27,11 @@ pub fn set_up(table: &mut [f32], whole: &mut [u32]) {
 pub fn controls(table: &mut [f32], whole: &mut [u32]) {
     show::line(
         b"controls of wheel 4",
-        vehicle::controls::set_controls(table, whole, 4, 0.0, 0.0, identity()),
+        vehicle::controls::set_controls(table, whole, 4, straight(0.0, 0.0)),
     );
     show::line(
         b"brake -1",
-        vehicle::controls::set_controls(table, whole, 0, 0.0, -1.0, identity()),
+        vehicle::controls::set_controls(table, whole, 0, straight(0.0, -1.0)),
     );
 }
 
@@ -65,7 +66,7 @@ pub fn bad_frames(table: &mut [f32], whole: &mut [u32]) {
     let dynamic = [false; 65];
     show::line(
         b"three answers",
-        drive::drive::drive(
+        drive::advance::drive(
             table,
             whole,
             0.5,
@@ -77,7 +78,7 @@ pub fn bad_frames(table: &mut [f32], whole: &mut [u32]) {
     );
     show::line(
         b"65 bodies",
-        drive::drive::drive(table, whole, 0.5, &bodies, &dynamic, on_the_ground(), 4).number,
+        drive::advance::drive(table, whole, 0.5, &bodies, &dynamic, on_the_ground(), 4).number,
     );
 }
 
@@ -94,21 +95,12 @@ pub fn stored_too_large(table: &mut [f32], whole: &mut [u32]) {
     spoil(table);
     show::line(
         b"stored above 2^40",
-        vehicle::controls::set_controls(table, whole, 0, 0.0, 0.0, identity()),
+        vehicle::controls::set_controls(table, whole, 0, straight(0.0, 0.0)),
     );
 }
 
 fn add(table: &mut [f32], whole: &mut [u32], radius: f32) -> u32 {
-    vehicle::add::add_wheel(
-        table,
-        whole,
-        v(0.0, 0.0, 0.0),
-        v(0.0, -1.0, 0.0),
-        v(0.0, 0.0, 1.0),
-        1.0,
-        radius,
-        tuning(1.0),
-    )
+    vehicle::add::add_wheel(table, whole, at(v(0.0, 0.0, 0.0), radius, tuning(1.0)))
 }
 
 fn add_four(table: &mut [f32], whole: &mut [u32]) {
@@ -139,7 +131,7 @@ pub fn steps() {
 }
 
 // One wheel at full side speed on a chassis of inverse mass 2^-20, with a side stiffness and an effective inverse mass.
-fn step_of(side: f32, effective: f32) -> drive::Driven {
+fn step_of(sideways: f32, effective: f32) -> drive::Driven {
     let mut table = [0.0; SIZE];
     let mut whole = [0u32; 4];
     vehicle::set_up::set_up(&mut table, &mut whole, 1, 0);
@@ -148,20 +140,11 @@ fn step_of(side: f32, effective: f32) -> drive::Driven {
         compression: 0.0,
         damping: 0.0,
         travel: 0.5,
-        side,
+        sideways,
         slip: 1.0,
         most: 1048576.0,
     };
-    vehicle::add::add_wheel(
-        &mut table,
-        &mut whole,
-        v(0.0, 0.0, 0.0),
-        v(0.0, -1.0, 0.0),
-        v(0.0, 0.0, 1.0),
-        1.0,
-        1.0,
-        t,
-    );
+    vehicle::add::add_wheel(&mut table, &mut whole, at(v(0.0, 0.0, 0.0), 1.0, t));
     let mut c = chassis(v(0.0, 0.0, 1048576.0));
     let mut b = c.body;
     b.invmass = 0.00000095367431640625;
@@ -170,7 +153,7 @@ fn step_of(side: f32, effective: f32) -> drive::Driven {
     drive::aim::aim(&mut table, &mut whole, c);
     let bodies = [0.0; 1040];
     let dynamic = [false; 65];
-    drive::drive::drive(
+    drive::advance::drive(
         &mut table,
         &mut whole,
         0.5,

@@ -9,13 +9,12 @@ use lib.Seq.{drop-cons, getD-take, length-take-le}
 use lib.Ieee.{Format}
 use Rattle.lists.specs.Part.{paste}
 use Rattle.lists.proofs.Parts.{length-paste, paste-paste}
-use Rattle.table.specs.Rows.{vectorList}
 use Rattle.drive.specs.declared.Sight.{Sight}
 use Rattle.lists.specs.Puts.{Puts}
 use Rattle.lists.proofs.Puts.{paste-nil}
 use Rattle.scenario.specs.Results.{wordsOf}
 use Rattle.scenario.proofs.Words.{words-append}
-use Rattle.perform.specs.Call.{sightNumbers}
+use Rattle.drive.specs.Results.{sightList, sightsList}
 
 -- words lent as `before` get `whole` from `at` on; `rest` of it is left, and goes into `now` from `next` on
 pub record Putting (before now : List ℕ) (at next : ℕ) (rest whole : List ℕ) : Type 0 where
@@ -43,15 +42,15 @@ all-put {before} {now} {at} {next} {rest} {whole} s e = record {
 -- ---- the sights of the first n wheels, once i of them are put
 pub sights-more : (f : Format) (l : List Sight) (n i : ℕ) (z : Sight) → i < n → n ≤ length l →
     let s = getD l i z in
-    wordsOf f (sightNumbers (drop i (take n l))) ≡ wordsOf f (vectorList (s .hard) ++ vectorList (s .ray)) ++ wordsOf f (sightNumbers (drop (i + 1) (take n l)))
-unfolding sightNumbers
+    wordsOf f (sightsList (drop i (take n l))) ≡ wordsOf f (sightList s) ++ wordsOf f (sightsList (drop (i + 1) (take n l)))
+unfolding sightsList
 sights-more f l n i z h k =
     let long : length (take n l) ≡ n = length-take-le n l k in
     let first : drop i (take n l) ≡ getD l i z ∷ drop (i + 1) (take n l) = rw (add-one, ← getD-take n l i z h) (drop-cons (take n l) i z (omega arith)) in
     rw (first, ← words-append)
 
-pub sights-end : (f : Format) (l : List Sight) (n i : ℕ) → n ≤ i → n ≤ length l → wordsOf f (sightNumbers (drop i (take n l))) ≡ []
-unfolding sightNumbers wordsOf
+pub sights-end : (f : Format) (l : List Sight) (n i : ℕ) → n ≤ i → n ≤ length l → wordsOf f (sightsList (drop i (take n l))) ≡ []
+unfolding sightsList wordsOf
 sights-end f l n i h k =
     let none : length (take n l) ≤ i = rw (length-take-le n l k) h in
     rw (drop-of-length-le (take n l) none)

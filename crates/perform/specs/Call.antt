@@ -4,23 +4,23 @@ use mathlib.Core.List.{List, [], _∷_, _++_}
 use mathlib.Core.Path.{_≡_}
 use lib.Dec.{eqb}
 use lib.Ieee.{Float, Format}
-use lib.ListN.{length, take, replicate}
+use lib.ListN.{length, replicate}
 use Rattle.lists.specs.Pick.{pick}
 use Rattle.lists.specs.Part.{paste}
-use Rattle.table.specs.Rows.{vectorList}
 use Rattle.wheel.specs.declared.RayAnswer.the-variants.{Nothing}
+use Rattle.wheel.specs.Ray.{answerAt}
 use Rattle.passes.specs.Frame.{Frame, frame}
 use Rattle.refusals.specs.Shape.{countOf}
 use Rattle.refusals.specs.After.{After, after}
 use Rattle.vehicle.specs.declared.Reading.{Reading}
 use Rattle.vehicle.specs.Add.{addWheel}
 use Rattle.vehicle.specs.Controls.{setControls}
-use Rattle.vehicle.specs.Read.{readWheel}
-use Rattle.drive.specs.declared.Sight.{Sight}
+use Rattle.vehicle.specs.Read.{readingList, readWheel}
 use Rattle.drive.specs.declared.Aimed.{Aimed}
 use Rattle.drive.specs.declared.Driven.{Driven}
 use Rattle.drive.specs.Aim.{aimOf}
 use Rattle.drive.specs.Drive.{driveOf}
+use Rattle.drive.specs.Results.{aimedList, velocityList}
 use Rattle.stream.specs.declared.Asked.{Asked}
 use Rattle.stream.specs.Layout as code
 use Rattle.stream.specs.Grammar.{asked}
@@ -30,25 +30,15 @@ use Rattle.scenario.specs.Results.{wordsOf, flagWord}
 use Rattle.perform.specs.declared.Answer.{Answer}
 
 -- ---- the results of an accepted call, in the order of docs/STREAM.md
--- where each ray starts, and the ray
-unfoldable pub sightNumbers : List Sight → List Float
-sightNumbers [] = []
-sightNumbers (s ∷ l) = vectorList (s .hard) ++ (vectorList (s .ray) ++ sightNumbers l)
-
 -- an aim of so many wheels
 unfoldable pub aimResults : Format → ℕ → Aimed → List ℕ
-aimResults f wheels r = wordsOf f (r .speed ∷ sightNumbers (take wheels (r .sights)))
+aimResults f wheels r = wordsOf f (aimedList wheels r)
 
 unfoldable pub driveResults : Format → Driven → List ℕ
-driveResults f r = wordsOf f (vectorList (r .linvel) ++ vectorList (r .angvel)) ++ (flagWord (r .wake) ∷ [])
+driveResults f r = wordsOf f (velocityList r) ++ (flagWord (r .wake) ∷ [])
 
 unfoldable pub readResults : Format → Reading → List ℕ
-readResults f r =
-    wordsOf f
-    (vectorList (r .centre)
-    ++ vectorList (r .direction)
-    ++ vectorList (r .axle)
-    ++ (r .length ∷ r .force ∷ r .forward ∷ r .side ∷ r .skid ∷ r .rotation ∷ []))
+readResults f r = wordsOf f (readingList r)
 
 -- ---- what a code is answered: a number and the results
 pub record Answered : Type 0 where
@@ -85,7 +75,7 @@ answersOf l = answerCountFrom l (bodyCountFrom l)
 unfoldable pub frameFrom : Format → List ℕ → Frame
 frameFrom f l =
     let bodies = bodyCountFrom l in
-    frame (stepFrom f l) (bodiesFrom f l bodies) (flagsFrom l bodies) (paste (replicate code.ANSWERS Nothing) 0 (answersFrom f l (answersStart bodies) (answersOf l)))
+    frame (stepFrom f l) (bodiesFrom f l bodies) (flagsFrom l bodies) (answerAt (paste (replicate code.ANSWERS Nothing) 0 (answersFrom f l (answersStart bodies) (answersOf l))))
 
 abbrev pub driveCall : Format → List ℕ → List Float → List ℕ → After Answered
 driveCall f l t m = told (λ r. r .number) (driveResults f) (driveOf f t m (frameFrom f l) (answersOf l))

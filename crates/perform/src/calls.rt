@@ -2,7 +2,6 @@
 use super::Answer;
 use super::results;
 use scenario::decode;
-use vehicle::WheelTuning;
 ghost use mathlib.Core.Path.{_≡_};
 ghost use lib.ListN.{length};
 ghost use Rattle.refusals.specs.After.{after};
@@ -19,29 +18,7 @@ pub fn call_add(words: &[u32], table: &mut [f32], whole: &mut [u32]) -> u32
     requires { ⌜ length (now words) ≡ code.CODE-WORDS ⌝ }
     ensures { λ r. ⌜ after r (now (table .exit)) (now (whole .exit)) ≡ addWheel (now (table .entry)) (now (whole .entry)) (settingsFrom format (now (words .entry))) ⌝ }
 {
-    let s = decode::settings_from(words);
-    let connection = s.connection;
-    let direction = s.direction;
-    let axle = s.axle;
-    let tuning = WheelTuning {
-        stiffness: s.stiffness,
-        compression: s.compression,
-        damping: s.relaxation,
-        travel: s.travel,
-        side: s.side,
-        slip: s.slip,
-        most: s.most,
-    };
-    vehicle::add::add_wheel(
-        table,
-        whole,
-        connection,
-        direction,
-        axle,
-        s.rest,
-        s.radius,
-        tuning,
-    )
+    vehicle::add::add_wheel(table, whole, decode::settings_from(words))
 }
 
 // Sets the controls of the words. Answers the number of the call.
@@ -50,9 +27,7 @@ pub fn call_controls(words: &[u32], table: &mut [f32], whole: &mut [u32]) -> u32
     ensures { λ r. ⌜ after r (now (table .exit)) (now (whole .exit)) ≡ setControls format (now (table .entry)) (now (whole .entry)) (wheelFrom (now (words .entry))) (controlsFrom format (now (words .entry))) ⌝ }
 {
     let wheel = decode::wheel_from(words);
-    let c = decode::controls_from(words);
-    let steering = c.steering;
-    vehicle::controls::set_controls(table, whole, wheel, c.engine, c.brake, steering)
+    vehicle::controls::set_controls(table, whole, wheel, decode::controls_from(words))
 }
 
 // Reads the wheel that the words name; if accepted, its numbers go into the results.

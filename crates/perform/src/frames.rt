@@ -48,13 +48,13 @@ fn drive_on(
     flags: &[bool],
 ) -> Driven
     requires { ⌜ (length (now words) ≡ code.CODE-WORDS) × Counted (now words) ⌝ }
-    ensures { λ r. ⌜ after r (now (table .exit)) (now (whole .exit)) ≡ driveOf format (now (table .entry)) (now (whole .entry)) (frame (stepFrom format (now (words .entry))) (now (bodies .entry)) (now (flags .entry)) (frameFrom format (now (words .entry)) .answers)) (answersOf (now (words .entry))) ⌝ }
+    ensures { λ r. ⌜ after r (now (table .exit)) (now (whole .exit)) ≡ driveOf format (now (table .entry)) (now (whole .entry)) (frame (stepFrom format (now (words .entry))) (now (bodies .entry)) (now (flags .entry)) (frameFrom format (now (words .entry)) .answer)) (answersOf (now (words .entry))) ⌝ }
 {
     let dt = frame::step_from(words);
     let nb = frame::body_count_from(words) as usize;
     let na = frame::answer_count_from(words, nb) as usize;
     let answers = frame::decode_answers(words, BODIES + nb * BODY_WORDS + 1, na);
-    drive::drive::drive(table, whole, dt, bodies, flags, answers, na)
+    drive::advance::drive(table, whole, dt, bodies, flags, answers, na)
 }
 
 // Drives with the frame of the words.

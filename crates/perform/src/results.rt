@@ -2,41 +2,40 @@
 use drive::Aimed;
 use drive::Driven;
 use drive::Sight;
+use drive::results::VELOCITIES;
+use drive::results::sight_numbers;
+use drive::results::velocity_numbers;
 use lines::layout::WHEEL_RESULTS;
 use scenario::results;
+use table::layout::WHEELS;
 use vehicle::Reading;
+use vehicle::read::READING;
+use vehicle::read::reading_numbers;
 ghost use mathlib.Core.Path.{_≡_};
-ghost use mathlib.Core.List.{_++_};
 ghost use Prim.Native.Nat.{_+_, _≤_};
 ghost use lib.ListN.{length, take};
 ghost use Rattle.lists.specs.Part.{paste};
 ghost use Rattle.lists.specs.Puts.{Puts};
 ghost use Rattle.table.specs.Layout as at;
-ghost use Rattle.table.specs.Rows.{vectorList};
 ghost use Rattle.lines.specs.Layout as line;
+ghost use Rattle.drive.specs.Results.{sightList, sightsList};
 ghost use Rattle.scenario.specs.Format.{format};
 ghost use Rattle.scenario.specs.Results.{wordsOf};
-ghost use Rattle.perform.specs.Call.{sightNumbers, aimResults, driveResults, readResults};
-
-// The six velocities of a drive, and the numbers of a read.
-const VELOCITIES: usize = 6;
-
-const READING: usize = 15;
+ghost use Rattle.perform.specs.Call.{aimResults, driveResults, readResults};
 
 // Where a wheel's ray starts, and the ray, from word a on.
 fn put_sight(words: &mut [u32], a: usize, s: Sight)
     requires { ⌜ a + line.WHEEL-RESULTS ≤ length (now words) ⌝ }
-    ensures { λ _. ⌜ now (words .exit) ≡ paste (now (words .entry)) a (wordsOf format (vectorList (s .hard) ++ vectorList (s .ray))) ⌝ }
+    ensures { λ _. ⌜ now (words .exit) ≡ paste (now (words .entry)) a (wordsOf format (sightList s)) ⌝ }
 {
-    let h = s.hard;
-    let r = s.ray;
-    results::put_numbers(words, a, &[h.x, h.y, h.z, r.x, r.y, r.z]);
+    let numbers = sight_numbers(s);
+    results::put_numbers(words, a, &numbers);
 }
 
 // A sight for each of n wheels, behind the speed.
-fn put_sights(words: &mut [u32], n: usize, sights: [Sight; 16]) -> usize
+fn put_sights(words: &mut [u32], n: usize, sights: [Sight; WHEELS]) -> usize
     requires { ⌜ (length (now words) ≡ line.RESULTS) × (n ≤ at.WHEELS) ⌝ }
-    ensures { λ k. ⌜ Puts (now (words .entry)) (now (words .exit)) 1 k (wordsOf format (sightNumbers (take n sights))) ⌝ }
+    ensures { λ k. ⌜ Puts (now (words .entry)) (now (words .exit)) 1 k (wordsOf format (sightsList (take n sights))) ⌝ }
 {
     let mut a = 1usize;
     let mut i = 0usize;
@@ -64,9 +63,8 @@ pub fn put_driven(words: &mut [u32], r: Driven) -> usize
     requires { ⌜ length (now words) ≡ line.RESULTS ⌝ }
     ensures { λ k. ⌜ Puts (now (words .entry)) (now (words .exit)) 0 k (driveResults format r) ⌝ }
 {
-    let v = r.linvel;
-    let w = r.angvel;
-    results::put_numbers(words, 0, &[v.x, v.y, v.z, w.x, w.y, w.z]);
+    let numbers = velocity_numbers(r);
+    results::put_numbers(words, 0, &numbers);
     results::put_flag(words, VELOCITIES, r.wake);
     VELOCITIES + 1
 }
@@ -76,29 +74,7 @@ pub fn put_reading(words: &mut [u32], r: Reading) -> usize
     requires { ⌜ length (now words) ≡ line.RESULTS ⌝ }
     ensures { λ k. ⌜ Puts (now (words .entry)) (now (words .exit)) 0 k (readResults format r) ⌝ }
 {
-    let c = r.centre;
-    let d = r.direction;
-    let x = r.axle;
-    results::put_numbers(
-        words,
-        0,
-        &[
-            c.x,
-            c.y,
-            c.z,
-            d.x,
-            d.y,
-            d.z,
-            x.x,
-            x.y,
-            x.z,
-            r.length,
-            r.force,
-            r.forward,
-            r.side,
-            r.skid,
-            r.rotation,
-        ],
-    );
+    let numbers = reading_numbers(r);
+    results::put_numbers(words, 0, &numbers);
     READING
 }

@@ -1,15 +1,14 @@
 -- What two layouts say of one number. In order: the counts that the stream's codes and the lent table share; how wide the numbers are. Assumes nothing.
 use mathlib.Core.Path.{_≡_, refl}
 use Rattle.table.specs.Layout as table
-use Rattle.table.specs.Handed as handed
 use Rattle.stream.specs.Layout as code
 use Rattle.scenario.specs.Format.{format, widthsOf}
 
 -- an add's floats are a wheel's settings, and those of controls a wheel's controls
-pub settings-tied : code.ADD-FLOATS ≡ handed.SETTINGS
+pub settings-tied : code.ADD-FLOATS ≡ table.SETTINGS
 settings-tied = refl
 
-pub controls-tied : code.CONTROLS-FLOATS ≡ handed.CONTROLS
+pub controls-tied : code.CONTROLS-FLOATS ≡ table.CONTROLS
 controls-tied = refl
 
 -- an aim's floats are the kept chassis

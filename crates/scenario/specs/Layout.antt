@@ -1,61 +1,17 @@
 -- Where each field of a scenario code stands among its words: the field order of docs/STREAM.md. Word 0 is the code. Each place is a named constant, counted from the one before it. How many floats a field has, and how many fields there are at most, the stream's layout says. Definitions only.
 use Prim.Native.Nat.{ℕ, _+_, _*_}
-use Rattle.table.specs.Handed as handed
 use Rattle.stream.specs.Layout as code
 
--- ---- the first field: that of an aim is the chassis, in the order in which the table keeps it
+-- ---- the first field: an add has the settings from there on, an aim the chassis, in the order in which the table keeps them
 abbrev pub FIRST : ℕ
 FIRST = 1
 
--- ---- an add
-abbrev pub CONNECTION : ℕ
-CONNECTION = FIRST + handed.CONNECTION
-
-abbrev pub DIRECTION : ℕ
-DIRECTION = FIRST + handed.DIRECTION
-
-abbrev pub AXLE : ℕ
-AXLE = FIRST + handed.AXLE
-
-abbrev pub REST : ℕ
-REST = FIRST + handed.REST
-
-abbrev pub RADIUS : ℕ
-RADIUS = FIRST + handed.RADIUS
-
-abbrev pub STIFFNESS : ℕ
-STIFFNESS = FIRST + handed.STIFFNESS
-
-abbrev pub COMPRESSION : ℕ
-COMPRESSION = FIRST + handed.COMPRESSION
-
-abbrev pub DAMPING : ℕ
-DAMPING = FIRST + handed.DAMPING
-
-abbrev pub TRAVEL : ℕ
-TRAVEL = FIRST + handed.TRAVEL
-
-abbrev pub SIDE : ℕ
-SIDE = FIRST + handed.SIDE
-
-abbrev pub SLIP : ℕ
-SLIP = FIRST + handed.SLIP
-
-abbrev pub MOST : ℕ
-MOST = FIRST + handed.MOST
-
--- ---- controls, and a read, which has the wheel's number alone
+-- ---- the wheel's number, which a read has alone, and behind it the controls
 abbrev pub WHEEL : ℕ
 WHEEL = FIRST
 
-abbrev pub ENGINE : ℕ
-ENGINE = WHEEL + 1 + handed.ENGINE
-
-abbrev pub BRAKE : ℕ
-BRAKE = WHEEL + 1 + handed.BRAKE
-
-abbrev pub STEERING : ℕ
-STEERING = WHEEL + 1 + handed.STEERING
+abbrev pub CONTROLS : ℕ
+CONTROLS = WHEEL + 1
 
 -- ---- a drive: the step, the number of bodies, and the bodies, each a lent body's numbers and its flag
 abbrev pub STEP : ℕ

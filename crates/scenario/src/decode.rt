@@ -2,9 +2,9 @@
 use super::bits;
 use super::layout::*;
 use body::Chassis;
-use table::layout::KEPT;
+use table::layout;
+use table::parts;
 use table::rows;
-use vector::Rotation;
 use vector::Vector;
 use wheel::Controls;
 use wheel::Settings;
@@ -13,7 +13,7 @@ ghost use Prim.Native.Nat.{_+_, _<_, _≤_};
 ghost use lib.ListN.{length};
 ghost use Rattle.stream.specs.Layout as code;
 ghost use Rattle.scenario.specs.Format.{format};
-ghost use Rattle.scenario.specs.Decode.{floatFrom, floatsFrom, vectorFrom, rotationFrom, settingsFrom, wheelFrom, controlsFrom, chassisFrom};
+ghost use Rattle.scenario.specs.Decode.{floatFrom, floatsFrom, vectorFrom, settingsFrom, wheelFrom, controlsFrom, chassisFrom};
 
 // The float that stands at a.
 pub fn float_from(words: &[u32], a: usize) -> f32
@@ -34,15 +34,6 @@ pub fn vector_from(words: &[u32], a: usize) -> Vector
     Vector { x, y, z }
 }
 
-pub fn rotation_from(words: &[u32], a: usize) -> Rotation
-    requires { ⌜ a + 3 < length (now words) ⌝ }
-    ensures { λ r. ⌜ r ≡ rotationFrom format (now (words .entry)) a ⌝ }
-{
-    let b = vector_from(words, a);
-    let w = float_from(words, a + 3);
-    Rotation { b, w }
-}
-
 // Fills the lent numbers with the floats from a on.
 fn floats_from(words: &[u32], a: usize, numbers: &mut [f32])
     requires { ⌜ a + length (now numbers) ≤ length (now words) ⌝ }
@@ -60,20 +51,9 @@ pub fn settings_from(words: &[u32]) -> Settings
     requires { ⌜ length (now words) ≡ code.CODE-WORDS ⌝ }
     ensures { λ r. ⌜ r ≡ settingsFrom format (now (words .entry)) ⌝ }
 {
-    Settings {
-        connection: vector_from(words, CONNECTION),
-        direction: vector_from(words, DIRECTION),
-        axle: vector_from(words, AXLE),
-        rest: float_from(words, REST),
-        travel: float_from(words, TRAVEL),
-        radius: float_from(words, RADIUS),
-        stiffness: float_from(words, STIFFNESS),
-        compression: float_from(words, COMPRESSION),
-        relaxation: float_from(words, DAMPING),
-        slip: float_from(words, SLIP),
-        side: float_from(words, SIDE),
-        most: float_from(words, MOST),
-    }
+    let mut numbers = [0.0; layout::SETTINGS];
+    floats_from(words, FIRST, &mut numbers);
+    parts::settings_at(&numbers, 0)
 }
 
 // The wheel that controls or a read names.
@@ -88,11 +68,9 @@ pub fn controls_from(words: &[u32]) -> Controls
     requires { ⌜ length (now words) ≡ code.CODE-WORDS ⌝ }
     ensures { λ r. ⌜ r ≡ controlsFrom format (now (words .entry)) ⌝ }
 {
-    Controls {
-        steering: rotation_from(words, STEERING),
-        engine: float_from(words, ENGINE),
-        brake: float_from(words, BRAKE),
-    }
+    let mut numbers = [0.0; layout::CONTROLS];
+    floats_from(words, CONTROLS, &mut numbers);
+    parts::controls_at(&numbers, 0)
 }
 
 // The chassis of an aim.
@@ -100,7 +78,7 @@ pub fn chassis_from(words: &[u32]) -> Chassis
     requires { ⌜ length (now words) ≡ code.CODE-WORDS ⌝ }
     ensures { λ r. ⌜ r ≡ chassisFrom format (now (words .entry)) ⌝ }
 {
-    let mut numbers = [0.0; KEPT];
+    let mut numbers = [0.0; layout::KEPT];
     floats_from(words, FIRST, &mut numbers);
     rows::read_chassis(&numbers)
 }

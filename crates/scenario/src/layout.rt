@@ -1,43 +1,13 @@
 // Where each field of a scenario code stands among its words: the field order of docs/STREAM.md. Word 0 is the code, and each place is counted from the one before it. How many floats a field has, and how many fields there are at most, the stream's layout says.
 use stream::layout as code;
-use table::handed;
 
-// The first field: that of an aim is the chassis, in the order in which the table keeps it.
+// The first field: an add has the settings from there on, an aim the chassis, in the order in which the table keeps them.
 pub const FIRST: usize = 1;
 
-// An add.
-pub const CONNECTION: usize = FIRST + handed::CONNECTION;
-
-pub const DIRECTION: usize = FIRST + handed::DIRECTION;
-
-pub const AXLE: usize = FIRST + handed::AXLE;
-
-pub const REST: usize = FIRST + handed::REST;
-
-pub const RADIUS: usize = FIRST + handed::RADIUS;
-
-pub const STIFFNESS: usize = FIRST + handed::STIFFNESS;
-
-pub const COMPRESSION: usize = FIRST + handed::COMPRESSION;
-
-pub const DAMPING: usize = FIRST + handed::DAMPING;
-
-pub const TRAVEL: usize = FIRST + handed::TRAVEL;
-
-pub const SIDE: usize = FIRST + handed::SIDE;
-
-pub const SLIP: usize = FIRST + handed::SLIP;
-
-pub const MOST: usize = FIRST + handed::MOST;
-
-// Controls, and a read, which has the wheel's number alone.
+// The wheel's number, which a read has alone, and behind it the controls.
 pub const WHEEL: usize = FIRST;
 
-pub const ENGINE: usize = WHEEL + 1 + handed::ENGINE;
-
-pub const BRAKE: usize = WHEEL + 1 + handed::BRAKE;
-
-pub const STEERING: usize = WHEEL + 1 + handed::STEERING;
+pub const CONTROLS: usize = WHEEL + 1;
 
 // A drive: the step, the number of bodies, and the bodies, each a lent body's numbers and its flag.
 pub const STEP: usize = FIRST;

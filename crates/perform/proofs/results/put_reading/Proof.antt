@@ -2,13 +2,16 @@
 use borrow.Author.Needs.{needs}
 use mathlib.Core.Path.{refl}
 use Rattle.scenario.specs.Results.{wordsOf}
+use Rattle.vehicle.specs.Read.{readingList}
 use Rattle.perform.specs.Call.{readResults}
 use Rattle.perform.proofs.results.put_reading.Statement.{statement}
 use Rattle.perform.proofs.results.put_reading.Tie as tie
 
 returns : tie.Need-returns
-unfolding readResults wordsOf
-returns c = record { put = c .before .before .put-numbers .ensures; end = refl }
+unfolding readResults wordsOf readingList
+returns c =
+    let put = c .before .before in
+    record { put = rw (put .before .before .reading-numbers .ensures) at (put .put-numbers .ensures); end = refl }
 
 pub put-reading-spec : {M : Type 1} → statement M
-put-reading-spec = tie.close (tie.spec (λ c. search needs) (λ c κs. search needs) (λ c. search needs) returns)
+put-reading-spec = tie.close (tie.spec (λ c κs. tt) (λ c. search needs) (λ c κs. search needs) (λ c. search needs) returns)

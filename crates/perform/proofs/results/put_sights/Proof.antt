@@ -7,14 +7,14 @@ use lib.ListN.{take, drop}
 use Rattle.lines.specs.Layout.{WHEEL-RESULTS}
 use Rattle.scenario.specs.Format.{format}
 use Rattle.scenario.specs.Results.{wordsOf}
-use Rattle.perform.specs.Call.{sightNumbers}
+use Rattle.drive.specs.Results.{sightList, sightsList}
 use Rattle.perform.proofs.Putting.{Putting, none-put, part-put, all-put, sights-more, sights-end}
 use Rattle.perform.proofs.results.put_sights.Statement.{statement}
 use Rattle.perform.proofs.results.put_sights.Tie as tie
 
 abbrev Inv-loop : tie.InvT-loop
 Inv-loop words₀ n sights a₀ i₀ words a i =
-    (i ≤ n) × (a ≡ 1 + i * WHEEL-RESULTS) × Putting words₀ words 1 a (wordsOf format (sightNumbers (drop i (take n sights)))) (wordsOf format (sightNumbers (take n sights)))
+    (i ≤ n) × (a ≡ 1 + i * WHEEL-RESULTS) × Putting words₀ words 1 a (wordsOf format (sightsList (drop i (take n sights)))) (wordsOf format (sightsList (take n sights)))
 
 abbrev μ-loop : tie.MeasureT-loop
 μ-loop words₀ n sights a₀ i₀ words a i = n - i
@@ -28,7 +28,7 @@ put-sight-requires c κs =
     omega arith
 
 loop-again : tie.Need-loop-again Inv-loop μ-loop
-unfolding wordsOf
+unfolding wordsOf sightList
 loop-again c =
     let call = c .before .before in
     let l = call .before .before .before .before in
