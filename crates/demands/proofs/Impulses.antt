@@ -169,7 +169,10 @@ module _ (f : Format) (d : Step) (i : ℕ) (g : Grounded f d i) where
   demand-grounded : demandingWheel f d i
       ≡ withFriction hung (withSkid f (rollingDemand f (d .frame .dt) (bodyIn f d) (groundIn d i) (groundedIn d) forward hung) (step.sideDemand f (hung .settings) (bodyIn f d) (groundIn d i) axis hung) (wheelLimit f (hung .settings) (d .frame .dt) hung))
   unfolding frictionOf
-  demand-grounded = rw (g .contact, ← own-settings) at (demand-of f d (g .stepped .accepted) i (g .stepped .counted))
+  demand-grounded =
+      (rw (g .contact) at (demand-of f d (g .stepped .accepted) i (g .stepped .counted)))
+      ∙ ap (λ (x : Settings). withFriction hung (withSkid f (rollingDemand f (d .frame .dt) (bodyIn f d) (groundIn d i) (groundedIn d) forward hung) (step.sideDemand f x (bodyIn f d) (groundIn d i) axis hung) (wheelLimit f x (d .frame .dt) hung)))
+      (sym own-settings)
 
   pub limit-is : gripLimit f d i ≡ wheelLimit f (hung .settings) (d .frame .dt) hung
   unfolding wheelLimit

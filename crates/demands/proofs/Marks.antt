@@ -19,7 +19,8 @@ use Rattle.refusals.proofs.Says.{Shape}
 use Rattle.refusals.proofs.Settled.{settled-refused, settled-done, settled-number}
 use Rattle.vehicle.specs.SetUp.{setUp, refuseSetUp}
 use Rattle.vehicle.specs.Add.{addWheel, refuseAdd, newWheel}
-use Rattle.vehicle.specs.Controls.{setControls, refuseControls, unaimed, withControls}
+use Rattle.wheel.specs.Parts.{withControls}
+use Rattle.vehicle.specs.Controls.{setControls, refuseControls, unaimed}
 use Rattle.vehicle.specs.Read.{readWheel, refuseRead, notRead, readingOf}
 use Rattle.vehicle.proofs.Accepted.{SetUpTested, set-up-says, add-says, set-controls-says}
 use Rattle.drive.specs.Aim.{aimOf, refuseAim, notAimed, aimedBy, aimedTable}

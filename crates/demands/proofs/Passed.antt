@@ -7,6 +7,7 @@ use mathlib.Core.Path.{_≡_, refl, ap, _∙_}
 use lib.ListN.{length}
 use lib.Ieee.{Float, Format}
 use Rattle.body.specs.declared.Body.{Body}
+use Rattle.tyre.specs.declared.Friction.{Friction}
 use Rattle.tyre.specs.Grip.{rescaledOf}
 use Rattle.wheel.specs.declared.Settings.{Settings}
 use Rattle.wheel.specs.declared.Wheel.{Wheel}
@@ -80,7 +81,7 @@ module _ (f : Format) (tune : Settings → Settings) (r : Frame) (n : ℕ) (l : 
   directions-sprung = gives-at (directionsOf f) _ (sprung f tune r n t .table) noDirections n i l h ∙ ap (directionsOf f) wheel-sprung
 
   -- both demands, with its own directions
-  abbrev friction : _
+  abbrev friction : Friction
   friction = frictionOf f own (r .dt) (sprung f tune r n t .chassis .body) (isGrounded (r .answer i)) (groundUnder (r .bodies) (r .dynamic) (r .answer i)) (groundedWheels (r .answer) n) (directionsOf f hung) hung
 
   pub wheel-demanded : wheelAt (demandStep f tune r n t .table) i ≡ withFriction hung friction
