@@ -65,15 +65,7 @@ fn each_number_lands_at_its_place() {
     assert_eq!(ffi::aim(&mut table, &mut whole, &chassis, &mut [0.0; len::AIM]), 0);
     assert_eq!(table[..len::CHASSIS], chassis, "the chassis is kept as it was handed in");
     let row = &table[len::CHASSIS..];
-    // The row holds the numbers of the source's `Wheel` in their declared order; `settings` stand in the order of its `add_wheel`.
-    assert_eq!(row[19..28], settings[..9], "connection, direction, axle");
-    assert_eq!([row[28], row[30]], settings[9..11], "rest length, radius");
-    assert_eq!(row[31..34], settings[11..14], "stiffness, compression, damping");
-    assert_eq!(
-        [row[29], row[35], row[34], row[38]],
-        settings[14..],
-        "travel, side stiffness, slip, greatest force"
-    );
-    assert_eq!([row[45], row[46]], controls[..2], "engine, brake");
-    assert_eq!(row[41..45], controls[2..], "steering");
+    // Settings and controls stand together in a row, in the order in which they are handed in.
+    assert_eq!(row[19..37], settings, "settings");
+    assert_eq!(row[37..43], controls, "controls");
 }

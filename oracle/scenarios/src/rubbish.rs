@@ -53,7 +53,7 @@ fn table(random: &mut Random) -> Table {
 /// Settings in their ranges, so that most calls get past refusal 10.
 fn fit_settings(random: &mut Random, size: Size, table: &mut Table, wheel: usize) {
     let mut row = table.row(wheel);
-    for place in (row::REST_LENGTH..=row::SIDE_STIFFNESS).chain([row::MAX_FORCE, row::BRAKE]) {
+    for place in (row::REST_LENGTH..=row::MAX_FORCE).chain([row::BRAKE]) {
         row.0[place] = row.0[place].abs();
     }
     if row.0[row::RADIUS] == 0.0 {

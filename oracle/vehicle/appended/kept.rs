@@ -1,7 +1,7 @@
 
 // Lines of ours, appended by the oracle's build to a copy of the file above; the file itself stays as sent.
 impl crate::step::Kept for Wheel {
-    /// The numbers that a row keeps, in declared order. Steering is kept as a rotation elsewhere.
+    /// The numbers that a row keeps, in its order. Steering is kept as a rotation elsewhere.
     fn kept(&mut self) -> [&mut Real; crate::row::KEPT] {
         let info = &mut self.raycast_info;
         [
@@ -34,23 +34,23 @@ impl crate::step::Kept for Wheel {
             &mut self.axle_cs.y,
             &mut self.axle_cs.z,
             &mut self.suspension_rest_length,
-            &mut self.max_suspension_travel,
             &mut self.radius,
             &mut self.suspension_stiffness,
             &mut self.damping_compression,
             &mut self.damping_relaxation,
-            &mut self.friction_slip,
+            &mut self.max_suspension_travel,
             &mut self.side_friction_stiffness,
-            &mut self.rotation,
-            &mut self.delta_rotation,
+            &mut self.friction_slip,
             &mut self.max_suspension_force,
-            &mut self.forward_impulse,
-            &mut self.side_impulse,
             &mut self.engine_force,
             &mut self.brake,
-            &mut self.clipped_inv_contact_dot_suspension,
             &mut self.suspension_relative_velocity,
+            &mut self.clipped_inv_contact_dot_suspension,
+            &mut self.rotation,
+            &mut self.delta_rotation,
             &mut self.wheel_suspension_force,
+            &mut self.forward_impulse,
+            &mut self.side_impulse,
             &mut self.skid_info,
         ]
     }

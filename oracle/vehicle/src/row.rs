@@ -1,7 +1,8 @@
 //! Where each number stands in the lent table: the kept chassis, then 16 wheel rows.
 //!
-//! A row holds the numbers of `Wheel` and `RayCastInfo` in their declared order. Contact, ground
-//! object and roll influence are not kept; steering is kept as a rotation.
+//! A row holds the numbers of `Wheel` and `RayCastInfo` part by part: the ray's info, the place, the
+//! settings, the controls, the approach, the motion. Contact, ground object and roll influence are
+//! not kept; steering is kept as a rotation.
 
 use std::ops::Range;
 
@@ -29,24 +30,24 @@ pub const CONNECTION_POINT: usize = 19;
 pub const DIRECTION: usize = 22;
 pub const AXLE: usize = 25;
 pub const REST_LENGTH: usize = 28;
-pub const TRAVEL: usize = 29;
-pub const RADIUS: usize = 30;
-pub const STIFFNESS: usize = 31;
-pub const COMPRESSION: usize = 32;
-pub const RELAXATION: usize = 33;
-pub const SLIP: usize = 34;
-pub const SIDE_STIFFNESS: usize = 35;
-pub const ROTATION: usize = 36;
-pub const DELTA_ROTATION: usize = 37;
-pub const MAX_FORCE: usize = 38;
-pub const FORWARD_IMPULSE: usize = 39;
-pub const SIDE_IMPULSE: usize = 40;
-pub const STEERING: usize = 41;
-pub const ENGINE: usize = 45;
-pub const BRAKE: usize = 46;
-pub const CLIPPED_INVERSE: usize = 47;
-pub const RELATIVE_VELOCITY: usize = 48;
-pub const SUSPENSION_FORCE: usize = 49;
+pub const RADIUS: usize = 29;
+pub const STIFFNESS: usize = 30;
+pub const COMPRESSION: usize = 31;
+pub const RELAXATION: usize = 32;
+pub const TRAVEL: usize = 33;
+pub const SIDE_STIFFNESS: usize = 34;
+pub const SLIP: usize = 35;
+pub const MAX_FORCE: usize = 36;
+pub const ENGINE: usize = 37;
+pub const BRAKE: usize = 38;
+pub const STEERING: usize = 39;
+pub const RELATIVE_VELOCITY: usize = 43;
+pub const CLIPPED_INVERSE: usize = 44;
+pub const ROTATION: usize = 45;
+pub const DELTA_ROTATION: usize = 46;
+pub const SUSPENSION_FORCE: usize = 47;
+pub const FORWARD_IMPULSE: usize = 48;
+pub const SIDE_IMPULSE: usize = 49;
 pub const SKID: usize = 50;
 
 /// What an aim works out in a row: hard point, centre, world direction and world axle.
@@ -69,14 +70,14 @@ impl Row {
     }
 
     pub fn set_steering(&mut self, steering: Rotation) {
-        self.0[STEERING..ENGINE].copy_from_slice(&steering.parts());
+        self.0[STEERING..RELATIVE_VELOCITY].copy_from_slice(&steering.parts());
     }
 
     /// The row without its steering.
     pub fn kept(&self) -> [Real; KEPT] {
         let mut numbers = [0.0; KEPT];
         numbers[..STEERING].copy_from_slice(&self.0[..STEERING]);
-        numbers[STEERING..].copy_from_slice(&self.0[ENGINE..]);
+        numbers[STEERING..].copy_from_slice(&self.0[RELATIVE_VELOCITY..]);
         numbers
     }
 
@@ -84,7 +85,7 @@ impl Row {
     pub fn from_kept(numbers: [Real; KEPT], steering: Rotation) -> Row {
         let mut row = Row::ZERO;
         row.0[..STEERING].copy_from_slice(&numbers[..STEERING]);
-        row.0[ENGINE..].copy_from_slice(&numbers[STEERING..]);
+        row.0[RELATIVE_VELOCITY..].copy_from_slice(&numbers[STEERING..]);
         row.set_steering(steering);
         row
     }
