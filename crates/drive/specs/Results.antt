@@ -1,11 +1,8 @@
 -- The results of an accepted aim and of an accepted drive, as numbers: the order of docs/STREAM.md. Definitions only.
-use Prim.Native.Nat.{ℕ}
 use mathlib.Core.List.{List, [], _∷_, _++_}
-use lib.ListN.{take}
 use lib.Ieee.{Float}
 use Rattle.table.specs.Rows.{vectorList}
 use Rattle.drive.specs.declared.Sight.{Sight}
-use Rattle.drive.specs.declared.Aimed.{Aimed}
 use Rattle.drive.specs.declared.Driven.{Driven}
 
 -- where each ray starts, and the ray
@@ -16,9 +13,9 @@ unfoldable pub sightsList : List Sight → List Float
 sightsList [] = []
 sightsList (s ∷ l) = sightList s ++ sightsList l
 
--- an aim: the signed speed, then the sights of so many wheels
-unfoldable pub aimedList : ℕ → Aimed → List Float
-aimedList wheels r = r .speed ∷ sightsList (take wheels (r .sights))
+-- an aim: the signed speed, then the sights
+unfoldable pub aimedList : Float → List Sight → List Float
+aimedList speed sights = speed ∷ sightsList sights
 
 -- a drive: the six velocities. Whether the chassis is to be woken stands behind them, as each reader writes a yes or no.
 unfoldable pub velocityList : Driven → List Float

@@ -14,6 +14,7 @@ use Rattle.lists.proofs.Parts.{part-to, part-paste}
 use Rattle.lists.proofs.Turns.{length-listed}
 use Rattle.wheel.specs.declared.RayAnswer.{RayAnswer}
 use Rattle.table.specs.Layout as table
+use Rattle.wheel.specs.Ray.{answerAt}
 use Rattle.passes.specs.Frame.{frame}
 use Rattle.exports.specs.Layout as at
 use Rattle.exports.specs.Lists.{flagsFit, answersFit, listsFit, listTests, flagIn, flagsIn, answersIn, frameIn}
@@ -47,6 +48,6 @@ flags-lent flags dynamic e =
     part-to flags 0 (length dynamic) (length dynamic) (omega arith) ∙ (rw e (rw (length-flags dynamic) at (part-paste (replicate table.BODIES false) 0 (flagsIn dynamic) (omega arith))))
 
 pub frame-is : (dt : Float) (bodies : List Float) (dynamic kinds named : List ℕ) (rays : List Float) (flags : List Bool) (answers : List RayAnswer)
-    → flags ≡ flagsIn dynamic → answers ≡ answersIn kinds named rays → frame dt bodies flags answers ≡ frameIn dt bodies dynamic kinds named rays
+    → flags ≡ flagsIn dynamic → answers ≡ answersIn kinds named rays → frame dt bodies flags (answerAt answers) ≡ frameIn dt bodies dynamic kinds named rays
 unfolding frameIn
 frame-is dt bodies dynamic kinds named rays flags answers p q = rw (p, q)

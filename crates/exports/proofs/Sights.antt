@@ -12,7 +12,7 @@ use Rattle.lists.proofs.Parts.{length-paste, paste-paste, paste-all, set-is-pas
 use Rattle.table.specs.Layout as table
 use Rattle.drive.specs.declared.Sight.{Sight}
 use Rattle.exports.specs.Layout as at
-use Rattle.exports.specs.Results.{sightList, sightsList}
+use Rattle.drive.specs.Results.{sightList, sightsList}
 
 pub length-sights : (l : List Sight) → length (sightsList l) ≡ length l * at.SIGHT
 unfolding sightsList sightList

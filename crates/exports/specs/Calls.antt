@@ -16,10 +16,11 @@ use Rattle.drive.specs.declared.Aimed.{Aimed}
 use Rattle.drive.specs.Aim.{aimOf}
 use Rattle.drive.specs.declared.Driven.{Driven}
 use Rattle.drive.specs.Drive.{driveOf}
+use Rattle.drive.specs.Results.{aimedList}
 use Rattle.exports.specs.Layout as at
 use Rattle.exports.specs.Ends.{Flat, flat, ofLength, flattened}
 use Rattle.exports.specs.Lists.{listTests, frameIn}
-use Rattle.exports.specs.Results.{aimedList, drivenList}
+use Rattle.exports.specs.Results.{drivenList}
 
 unfoldable pub flatAdd : List Float → List ℕ → List Float → After ℕ
 flatAdd t m settings = settled (firstFailed (ofLength settings table.SETTINGS ∷ [])) (λ n. n) (addWheel t m (settingsAt settings 0)) t m
@@ -35,7 +36,7 @@ flatRead t m wheel results =
 unfoldable pub flatAim : Format → List Float → List ℕ → List Float → List Float → After Flat
 flatAim f t m chassis results =
     settled (firstFailed (ofLength chassis table.KEPT ∷ ofLength results at.AIM ∷ [])) (λ n. flat n results)
-    (flattened (λ (r : Aimed). r .number) aimedList results (aimOf f t m (chassisOf chassis))) t m
+    (flattened (λ (r : Aimed). r .number) (λ (r : Aimed). aimedList (r .speed) (r .sights)) results (aimOf f t m (chassisOf chassis))) t m
 
 -- an answer for each kind: how many wheels there are is the drive's own test
 unfoldable pub flatDrive : Format → List Float → List ℕ → Float → List Float → List ℕ → List ℕ → List ℕ → List Float → List Float → After Flat

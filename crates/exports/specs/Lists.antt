@@ -15,6 +15,7 @@ use Rattle.wheel.specs.declared.RayAnswer.{RayAnswer}
 use Rattle.wheel.specs.declared.RayAnswer.the-variants.{Nothing, Hit, HitUp}
 use Rattle.table.specs.Layout as table
 use Rattle.table.specs.Rows.{numberAt, vectorAt}
+use Rattle.wheel.specs.Ray.{answerAt}
 use Rattle.passes.specs.Frame.{Frame, frame}
 use Rattle.refusals.specs.Shape.{markOf, shapeOk}
 use Rattle.exports.specs.Layout as at
@@ -72,4 +73,4 @@ answersIn kinds named rays = paste (replicate table.WHEELS Nothing) 0 (listed (a
 
 -- ---- what the drive is given
 unfoldable pub frameIn : Float → List Float → List ℕ → List ℕ → List ℕ → List Float → Frame
-frameIn dt bodies dynamic kinds named rays = frame dt bodies (flagsIn dynamic) (answersIn kinds named rays)
+frameIn dt bodies dynamic kinds named rays = frame dt bodies (flagsIn dynamic) (answerAt (answersIn kinds named rays))

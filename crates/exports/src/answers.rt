@@ -148,7 +148,7 @@ fn answer_in(kinds: &[u32], named: &[u32], rays: &[f32], i: usize) -> RayAnswer
 }
 
 // The ray answers of a drive, and nothing for the wheels after them.
-fn decode_answers(kinds: &[u32], named: &[u32], rays: &[f32]) -> [RayAnswer; 16]
+fn decode_answers(kinds: &[u32], named: &[u32], rays: &[f32]) -> [RayAnswer; WHEELS]
     requires { ⌜ (length (now kinds) ≤ lent.WHEELS) × (length (now named) ≡ length (now kinds)) × (length (now rays) ≡ length (now kinds) * at.RAY) ⌝ }
     ensures { λ r. ⌜ r ≡ answersIn (now (kinds .entry)) (now (named .entry)) (now (rays .entry)) ⌝ }
 {
@@ -178,7 +178,7 @@ pub fn drive_lists(
     let count = dynamic.len();
     let flags = decode_flags(dynamic);
     let answers = decode_answers(kinds, named, rays);
-    drive::drive::drive(
+    drive::advance::drive(
         table,
         whole,
         dt,

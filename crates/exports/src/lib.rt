@@ -97,7 +97,7 @@ pub extern "C" fn vehicle_aim(
     r.number
 }
 
-// Drives the vehicle by one step: `drive::drive::drive`. Lists that do not fit together are refusal 6.
+// Drives the vehicle by one step: `drive::advance::drive`. Lists that do not fit together are refusal 6.
 // Takes: an aimed vehicle; the time step; the ground bodies, vehicle_body_len numbers each, with a flag for each, 1 dynamic or 0; and for each
 // wheel the kind of its ray answer (0 nothing, 1 a hit, 2 a hit with the upward normal), the number of the body that it names (0 none, n body
 // n - 1) and vehicle_ray_len numbers of its ray (time, normal, upward normal), of which a kind reads only its own.

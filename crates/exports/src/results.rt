@@ -8,7 +8,6 @@ use drive::Sight;
 use table::layout::WHEELS;
 use vehicle::Reading;
 ghost use mathlib.Core.Path.{_≡_};
-ghost use mathlib.Core.List.{_∷_};
 ghost use Prim.Native.Nat.{_+_, _*_, _<_};
 ghost use lib.ListN.{length};
 ghost use Rattle.lists.specs.Part.{paste};
@@ -16,7 +15,8 @@ ghost use Rattle.table.specs.Layout as lent;
 ghost use Rattle.vehicle.specs.Read.{READING, readingList};
 ghost use Rattle.exports.specs.Layout as at;
 ghost use Rattle.exports.specs.Ends.{writtenOver};
-ghost use Rattle.exports.specs.Results.{flagNumber, drivenList, sightList, sightsList, aimedList};
+ghost use Rattle.drive.specs.Results.{sightList, sightsList, aimedList};
+ghost use Rattle.exports.specs.Results.{flagNumber, drivenList};
 
 // The results of a read.
 pub fn put_reading(results: &mut [f32], r: Reading)
@@ -45,15 +45,8 @@ pub fn put_driven(results: &mut [f32], d: Driven)
     if d.number != 0 {
         return;
     }
-    let numbers = [
-        d.linvel.x,
-        d.linvel.y,
-        d.linvel.z,
-        d.angvel.x,
-        d.angvel.y,
-        d.angvel.z,
-        flag_number(d.wake),
-    ];
+    let v = drive::results::velocity_numbers(d);
+    let numbers = [v[0], v[1], v[2], v[3], v[4], v[5], flag_number(d.wake)];
     table::rows::copy(results, &numbers);
 }
 
@@ -64,12 +57,12 @@ fn put_sight(results: &mut [f32], i: usize, s: Sight)
 {
     let a = SIGHTS + i * SIGHT;
     let e = a + SIGHT;
-    let numbers = [s.hard.x, s.hard.y, s.hard.z, s.ray.x, s.ray.y, s.ray.z];
+    let numbers = drive::results::sight_numbers(s);
     table::rows::copy(&mut results[a..e], &numbers);
 }
 
 // The sights of all wheels, at their places.
-fn put_sights(results: &mut [f32], sights: [Sight; 16])
+fn put_sights(results: &mut [f32], sights: [Sight; WHEELS])
     requires { ⌜ length (now results) ≡ at.AIM ⌝ }
     ensures { λ _. ⌜ now (results .exit) ≡ paste (now (results .entry)) at.SIGHTS (sightsList sights) ⌝ }
 {
@@ -81,9 +74,9 @@ fn put_sights(results: &mut [f32], sights: [Sight; 16])
 }
 
 // The speed and the sights.
-fn write_aimed(results: &mut [f32], speed: f32, sights: [Sight; 16])
+fn write_aimed(results: &mut [f32], speed: f32, sights: [Sight; WHEELS])
     requires { ⌜ length (now results) ≡ at.AIM ⌝ }
-    ensures { λ _. ⌜ now (results .exit) ≡ speed ∷ sightsList sights ⌝ }
+    ensures { λ _. ⌜ now (results .exit) ≡ aimedList speed sights ⌝ }
 {
     results[SPEED] = speed;
     put_sights(results, sights);
@@ -92,7 +85,7 @@ fn write_aimed(results: &mut [f32], speed: f32, sights: [Sight; 16])
 // The results of an aim.
 pub fn put_aimed(results: &mut [f32], a: Aimed)
     requires { ⌜ length (now results) ≡ at.AIM ⌝ }
-    ensures { λ _. ⌜ now (results .exit) ≡ writtenOver (now (results .entry)) (a .number) (aimedList a) ⌝ }
+    ensures { λ _. ⌜ now (results .exit) ≡ writtenOver (now (results .entry)) (a .number) (aimedList (a .speed) (a .sights)) ⌝ }
 {
     if a.number != 0 {
         return;

@@ -5,11 +5,11 @@ use Rattle.lists.specs.Pick.{pick}
 use Rattle.real.specs.Number.{ratio}
 use Rattle.real.specs.Root.{rootOf}
 use Rattle.real.specs.Scalar.{inverseOf, raisedOf, loweredOf, clampOf, notBelowZero}
-use Rattle.wheel.specs.Suspension.{approachOf, lengthOf, dampingOf, forceOf}
-use Rattle.wheel.specs.Grip.{loadOf, slides, skidOf, rescaledBy, brakedOf}
+use Rattle.tyre.specs.Suspension.{approachOf, suspensionLength, dampingOf, suspensionForce}
+use Rattle.tyre.specs.Grip.{loadOf, slides, skidOf, rescaledBy, brakedOf}
 use Rattle.stream.specs.Number.{writeGroups, writeNumber}
 use Rattle.marked.specs.Cases.{numbers, inverse, force, impulses, cases, Met}
 
 pub marked : Met cases
-unfolding Met cases numbers inverse force impulses ratio approachOf lengthOf dampingOf forceOf notBelowZero sub le neg add mul div lt eq rootOf inverseOf raisedOf loweredOf clampOf loadOf slides skidOf rescaledBy brakedOf ofBits toBits writeNumber writeGroups pick
+unfolding Met cases numbers inverse force impulses ratio approachOf suspensionLength dampingOf suspensionForce notBelowZero sub le neg add mul div lt eq rootOf inverseOf raisedOf loweredOf clampOf loadOf slides skidOf rescaledBy brakedOf ofBits toBits writeNumber writeGroups pick
 marked = (refl, (refl, (refl, (refl, (refl, (refl, (refl, (refl, (refl, (refl, (refl, (refl, tt))))))))))))

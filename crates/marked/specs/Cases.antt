@@ -6,8 +6,9 @@ use lib.Ieee.{Float, binary32, neg, ofBits, toBits}
 use Rattle.real.specs.Number.{zero, one, two, half}
 use Rattle.real.specs.Small.{three, four, five, six, seven, eight, ten, twelve, twenty-four, quarter, three-quarters}
 use Rattle.real.specs.Root.{rootOf}
-use Rattle.wheel.specs.Suspension.{clip, lengthOf, approachOf, dampingOf, forceOf}
-use Rattle.wheel.specs.Grip.{skidOf, rescaledBy, brakedOf}
+use Rattle.tyre.specs.declared.WheelTuning.{WheelTuning}
+use Rattle.tyre.specs.Suspension.{clip, suspensionLength, approachOf, suspensionForce}
+use Rattle.tyre.specs.Grip.{skidOf, rescaledBy, brakedOf}
 use Rattle.stream.specs.Layout.{WIDTHS}
 use Rattle.stream.specs.Number.{writeNumber}
 
@@ -33,8 +34,11 @@ unfoldable pub inverse : Float → List ℕ
 inverse facing = number (approachOf binary32 facing one .inverse)
 
 -- cases 6 and 7: stiffness 8, rest 1, length 0.5, inverse 1, compression 2, relaxation 5, mass 4
+abbrev pub tuning : WheelTuning
+tuning = record { stiffness = eight; compression = two; damping = five; travel = zero; sideways = zero; slip = zero; most = zero }
+
 unfoldable pub force : Float → List ℕ
-force velocity = number (forceOf binary32 eight one half one (dampingOf two five velocity) velocity quarter)
+force velocity = number (suspensionForce binary32 tuning one half (record { velocity = velocity; inverse = one }) quarter)
 
 -- cases 8 to 10: both impulses, and skid
 unfoldable pub impulses : Float → Float → Float → List ℕ
@@ -48,7 +52,7 @@ cases =
     ∷ (case 2 gives number (rootOf binary32 (ofBits binary32 0x0000_0001)) asks (0x1A35_04F3 ∷ []))
     ∷ (case 3 gives inverse (neg (clip binary32)) asks number ten)
     ∷ (case 4 gives inverse (neg half) asks number two)
-    ∷ (case 5 gives number (lengthOf binary32 one quarter half half) asks number three-quarters)
+    ∷ (case 5 gives number (suspensionLength binary32 one quarter half half) asks number three-quarters)
     ∷ (case 6 gives force (neg one) asks number twenty-four)
     ∷ (case 7 gives force one asks number zero)
     ∷ (case 8 gives impulses six four five asks numbers (six ∷ four ∷ one ∷ []))

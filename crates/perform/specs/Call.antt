@@ -4,7 +4,7 @@ use mathlib.Core.List.{List, [], _∷_, _++_}
 use mathlib.Core.Path.{_≡_}
 use lib.Dec.{eqb}
 use lib.Ieee.{Float, Format}
-use lib.ListN.{length, replicate}
+use lib.ListN.{length, take, replicate}
 use Rattle.lists.specs.Pick.{pick}
 use Rattle.lists.specs.Part.{paste}
 use Rattle.wheel.specs.declared.RayAnswer.the-variants.{Nothing}
@@ -32,7 +32,7 @@ use Rattle.perform.specs.declared.Answer.{Answer}
 -- ---- the results of an accepted call, in the order of docs/STREAM.md
 -- an aim of so many wheels
 unfoldable pub aimResults : Format → ℕ → Aimed → List ℕ
-aimResults f wheels r = wordsOf f (aimedList wheels r)
+aimResults f wheels r = wordsOf f (aimedList (r .speed) (take wheels (r .sights)))
 
 unfoldable pub driveResults : Format → Driven → List ℕ
 driveResults f r = wordsOf f (velocityList r) ++ (flagWord (r .wake) ∷ [])

@@ -1,6 +1,6 @@
 -- `exports::results::put_aimed` meets its contract: a refusal leaves the list, and the speed and the sights are written. Assumes nothing.
 use borrow.Author.Needs.{needs}
-use Rattle.exports.specs.Results.{aimedList}
+use Rattle.drive.specs.Results.{aimedList}
 use Rattle.exports.proofs.Ending.{left-of-refused, written-of-accepted}
 use Rattle.exports.proofs.results.put_aimed.Statement.{statement}
 use Rattle.exports.proofs.results.put_aimed.Tie as tie

@@ -1,5 +1,6 @@
 -- `exports::results::put_driven` meets its contract: a refusal leaves the list, and the numbers in order are copied. Assumes nothing.
 use borrow.Author.Needs.{needs}
+use Rattle.drive.specs.Results.{velocityList}
 use Rattle.exports.specs.Results.{drivenList}
 use Rattle.exports.proofs.Ending.{left-of-refused, written-of-accepted}
 use Rattle.exports.proofs.results.put_driven.Statement.{statement}
@@ -9,10 +10,27 @@ returns : tie.Need-returns
 returns c = left-of-refused _ _ _ (c .if1 .taken)
 
 returns-2 : tie.Need-returns-2
-unfolding drivenList
+unfolding drivenList velocityList
 returns-2 c =
-    let flag = c .before .before .before .before .before in
-    written-of-accepted _ _ _ _ (flag .before .if1 .left) (rw (← flag .flag-number .ensures) (c .before .before .copy .ensures))
+    let put = c .before .before in
+    let flag = put .before .before .before in
+    let numbers = flag .before in
+    written-of-accepted _ _ _ _ (numbers .before .if1 .left) (rw (flag .flag-number .ensures, numbers .velocity-numbers .ensures) at (put .copy .ensures))
 
 pub put-driven-spec : {M : Type 1} → statement M
-put-driven-spec = tie.close (tie.spec returns (λ c κs. tt) (λ c. search needs) (λ c κs. search needs) (λ c. search needs) returns-2)
+put-driven-spec =
+    tie.close
+    (tie.spec
+    returns
+    (λ c κs. tt)
+    (λ c. search needs)
+    (λ c. search needs)
+    (λ c. search needs)
+    (λ c. search needs)
+    (λ c. search needs)
+    (λ c. search needs)
+    (λ c κs. tt)
+    (λ c. search needs)
+    (λ c κs. search needs)
+    (λ c. search needs)
+    returns-2)

@@ -1,18 +1,20 @@
 -- `exports::results::put_sight` meets its contract: the lent part comes back as the sight. Assumes nothing.
 use borrow.Author.Needs.{needs}
 use Prim.Native.Nat.{_+_, _*_}
-use mathlib.Core.Path.{refl}
+use mathlib.Core.Path.{refl, _∙_}
 use Rattle.lists.proofs.Parts.{paste-is}
 use Rattle.exports.specs.Layout as at
-use Rattle.exports.specs.Results.{sightList}
+use Rattle.drive.specs.Results.{sightList}
 use Rattle.exports.proofs.results.put_sight.Statement.{statement}
 use Rattle.exports.proofs.results.put_sight.Tie as tie
 
 returns : tie.Need-returns
 unfolding sightList
 returns c =
-    let a = c .before .before .before .before .before .before .args in
-    paste-is (a .results .now) _ (sightList (a .s)) (at.SIGHTS + a .i * at.SIGHT) at.SIGHT (c .before .before .copy .ensures) refl
+    let put = c .before .before in
+    let numbers = put .before .before .before in
+    let a = numbers .before .before .args in
+    paste-is (a .results .now) _ (sightList (a .s)) (at.SIGHTS + a .i * at.SIGHT) at.SIGHT (put .copy .ensures ∙ numbers .sight-numbers .ensures) refl
 
 pub put-sight-spec : {M : Type 1} → statement M
 put-sight-spec =
@@ -21,6 +23,7 @@ put-sight-spec =
     (λ c. search needs)
     (λ c. search needs)
     (λ c. search needs)
+    (λ c κs. tt)
     (λ c. search needs)
     (λ c. search needs)
     (λ c. search needs)

@@ -2,11 +2,13 @@
 use borrow.Author.Needs.{needs}
 use mathlib.Core.Path.{_∙_}
 use lib.ListN.{length-set}
+use Rattle.drive.specs.Results.{aimedList}
 use Rattle.exports.proofs.Sights.{aimed-is}
 use Rattle.exports.proofs.results.write_aimed.Statement.{statement}
 use Rattle.exports.proofs.results.write_aimed.Tie as tie
 
 returns : tie.Need-returns
+unfolding aimedList
 returns c =
     let a = c .before .before .before .before .before .args in
     c .before .before .put-sights .ensures ∙ aimed-is (a .results .now) (a .speed) (a .sights) (search needs) (search needs)
