@@ -4,12 +4,13 @@ use mathlib.Core.Path.{refl}
 use native.Mathlib.Omega.{arith}
 use Rattle.lists.proofs.Puts.{puts-join}
 use Rattle.scenario.specs.Results.{wordsOf}
+use Rattle.drive.specs.Results.{aimedList}
 use Rattle.perform.specs.Call.{aimResults}
 use Rattle.perform.proofs.results.put_aimed.Statement.{statement}
 use Rattle.perform.proofs.results.put_aimed.Tie as tie
 
 returns : tie.Need-returns
-unfolding aimResults wordsOf
+unfolding aimResults wordsOf aimedList
 returns c =
     let sights = c .before .before in
     let speed = sights .before .before .before .before in

@@ -11,7 +11,7 @@ returns : tie.Need-returns
 unfolding readResults wordsOf readingList
 returns c =
     let put = c .before .before in
-    record { put = rw (put .before .before .reading-numbers .ensures) at (put .put-numbers .ensures); end = refl }
+    record { put = rw (put .before .before .before .reading-numbers .ensures) at (put .put-numbers .ensures); end = refl }
 
 pub put-reading-spec : {M : Type 1} → statement M
 put-reading-spec = tie.close (tie.spec (λ c κs. tt) (λ c. search needs) (λ c κs. search needs) (λ c. search needs) returns)
