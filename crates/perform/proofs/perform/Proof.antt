@@ -12,7 +12,9 @@ use Rattle.perform.proofs.perform.Statement.{statement}
 use Rattle.perform.proofs.perform.Tie as tie
 
 abbrev start : tie.After-asked → tie.Start
-start c = c .before .before .before .before .before .before
+start c =
+    let at-place = c .before .before .before .before in
+    at-place .before .before
 
 -- what the words ask for is what was found to be asked
 asks : (c : tie.After-asked) (a : Asked) → c .asked .result ≡ a → asked (numberFrom (start c .args .words .now) 0) ≡ a
@@ -51,14 +53,16 @@ returns-3 c =
 returns-4 : tie.Need-returns-4
 unfolding callOf callFor
 returns-4 c =
-    let call = c .before .before .before .before .before .before in
+    let at-place = c .before .before .before .before in
+    let call = at-place .before .before in
     let arm = call .before .before .before .before in
     rw (asks (arm .before .before) _ (arm .enum-told4 .given .1)) (call .call-aim .ensures)
 
 returns-5 : tie.Need-returns-5
 unfolding callOf callFor
 returns-5 c =
-    let call = c .before .before .before .before .before .before in
+    let at-place = c .before .before .before .before in
+    let call = at-place .before .before in
     let arm = call .before .before .before .before in
     rw (asks (arm .before .before) _ (arm .enum-told5 .given .1)) (call .call-drive .ensures)
 

@@ -6,7 +6,9 @@ use Rattle.vector.proofs.rotate.Tie as tie
 
 returns : tie.Need-returns
 unfolding rotateV ofBits
-returns c = rw (← c .before .before .before .before .before .before .before .dot .ensures, ← c .before .before .before .before .before .before .scale .ensures, ← c .before .before .before .before .before .dot2 .ensures, ← c .before .before .before .before .scale2 .ensures, ← c .before .before .before .add .ensures, ← c .before .before .cross .ensures, ← c .before .scale3 .ensures, ← c .add2 .ensures)
+returns c =
+    let at-scale2 = c .before .before .before .before in
+    rw (← at-scale2 .before .before .before .dot .ensures, ← at-scale2 .before .before .scale .ensures, ← at-scale2 .before .dot2 .ensures, ← at-scale2 .scale2 .ensures, ← c .before .before .before .add .ensures, ← c .before .before .cross .ensures, ← c .before .scale3 .ensures, ← c .add2 .ensures)
 
 pub rotate-spec : {M : Type 1} → statement M
 rotate-spec = tie.close (tie.spec (λ c κs. tt) (λ c κs. tt) (λ c κs. tt) (λ c κs. tt) (λ c κs. tt) (λ c κs. tt) (λ c κs. tt) (λ c κs. tt) returns)

@@ -10,7 +10,7 @@ use Rattle.drive.proofs.advance.drive.Statement.{statement}
 use Rattle.drive.proofs.advance.drive.Tie as tie
 
 -- what was tested of what the drive is handed, once it is not refused
-frame : (c : tie.Else1) → let a = c .before .before .before .before .before .before .before .before .args in FrameTested (a .table .now) (a .whole .now) (a .bodies .now) (a .dynamic .now) (answerAt (a .answers)) (a .n)
+frame : (c : tie.Else1) → let after-start = c .before .before .before .before in let a = after-start .before .before .before .before .args in FrameTested (a .table .now) (a .whole .now) (a .bodies .now) (a .dynamic .now) (answerAt (a .answers)) (a .n)
 frame c = early-tests-say _ _ _ _ _ (sym (c .before .refuse-early .ensures) ∙ c .if1 .left) .frame
 
 returns : tie.Need-returns
@@ -30,16 +30,21 @@ try-step-requires c κs =
 
 slice-write-whole : tie.Need-slice-write-whole
 slice-write-whole c =
-    let s = frame (c .before .before .before .before .before .before .before) .shape in
+    let at-try-step = c .before .before .before .before in
+    let s = frame (at-try-step .before .before .before) .shape in
     omega arith
 
 returns-2 : tie.Need-returns-2
 unfolding driveOf
-returns-2 c = drive-accepted _ _ _ _ _ _ _ _ (c .before .before .before .before .try-step .ensures) _ (c .before .before .before .before .before .before .before .before .refuse-early .ensures) (c .before .before .before .before .before .before .before .if1 .left) (c .if2 .taken)
+returns-2 c =
+    let at-try-step = c .before .before .before .before in
+    drive-accepted _ _ _ _ _ _ _ _ (at-try-step .try-step .ensures) _ (at-try-step .before .before .before .before .refuse-early .ensures) (at-try-step .before .before .before .if1 .left) (c .if2 .taken)
 
 returns-3 : tie.Need-returns-3
 unfolding driveOf
-returns-3 c = drive-refused-late _ _ _ _ _ _ _ _ (c .before .before .before .before .try-step .ensures) _ (c .before .before .before .before .before .before .before .before .refuse-early .ensures) (c .before .before .before .before .before .before .before .if1 .left) (c .if2 .left)
+returns-3 c =
+    let at-try-step = c .before .before .before .before in
+    drive-refused-late _ _ _ _ _ _ _ _ (at-try-step .try-step .ensures) _ (at-try-step .before .before .before .before .refuse-early .ensures) (at-try-step .before .before .before .if1 .left) (c .if2 .left)
 
 pub drive-spec : {M : Type 1} → statement M
 drive-spec =

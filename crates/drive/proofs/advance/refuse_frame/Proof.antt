@@ -41,7 +41,8 @@ returns-5 c = search picks depth 40 fits 4000
 
 are-answers-ok-requires : tie.Need-are-answers-ok-requires
 are-answers-ok-requires c κs =
-    let s = shape-says _ _ (told-yes _ _ (c .before .before .before .before .before .before .before .is-shape-ok .ensures) (c .before .before .before .before .before .before .if1 .left)) in
+    let at-if2 = c .before .before .before .before in
+    let s = shape-says _ _ (told-yes _ _ (at-if2 .before .before .before .is-shape-ok .ensures) (at-if2 .before .before .if1 .left)) in
     omega arith
 
 returns-6 : tie.Need-returns-6

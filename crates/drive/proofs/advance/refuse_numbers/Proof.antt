@@ -34,8 +34,8 @@ refuse-numbers-spec =
     returns
     (λ c κs. tt)
     returns-2
-    (λ c κs. c .before .before .before .before .before .before .pre .1)
+    (λ c κs. let at-is-within = c .before .before .before in at-is-within .before .before .before .pre .1)
     returns-3
-    (λ c κs. (c .before .before .before .before .before .before .before .before .pre .0, c .before .before .before .before .before .before .before .before .pre .1))
+    (λ c κs. let at-if1 = c .before .before .before .before in (at-if1 .before .before .before .before .pre .0, at-if1 .before .before .before .before .pre .1))
     returns-4
     returns-5)

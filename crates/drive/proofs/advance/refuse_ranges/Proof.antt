@@ -33,9 +33,9 @@ refuse-ranges-spec =
     returns
     (λ c κs. (c .before .before .before .before .pre .2, c .before .before .before .before .pre .3))
     returns-2
-    (λ c κs. (c .before .before .before .before .before .before .pre .0, c .before .before .before .before .before .before .pre .1))
+    (λ c κs. let at-is-in-unit = c .before .before .before in (at-is-in-unit .before .before .before .pre .0, at-is-in-unit .before .before .before .pre .1))
     returns-3
-    (λ c κs. c .before .before .before .before .before .before .before .before .pre .0)
+    (λ c κs. let at-if1 = c .before .before .before .before in at-if1 .before .before .before .before .pre .0)
     (λ c κs. tt)
     returns-4
     returns-5)

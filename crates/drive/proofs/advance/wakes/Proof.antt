@@ -34,15 +34,17 @@ loop-holds c = every-start (idleAt (c .before .args .table .now)) (c .before .ar
 returns : tie.Need-returns Inv-loop μ-loop
 unfolding wakes
 returns c =
-    let l = c .before .before .before .before .loop in
-    let idle = idleAt (c .before .before .before .before .before .before .args .table .now) in
-    sym (ap not (l .inv ∙ every-no idle (c .before .before .before .before .before .before .args .n) (l .i) (omega arith) (idle-no _ _ _ (c .before .before .get-wheel .ensures) (c .if1 .taken))))
+    let at-loop = c .before .before .before .before in
+    let l = at-loop .loop in
+    let idle = idleAt (at-loop .before .before .args .table .now) in
+    sym (ap not (l .inv ∙ every-no idle (at-loop .before .before .args .n) (l .i) (omega arith) (idle-no _ _ _ (c .before .before .get-wheel .ensures) (c .if1 .taken))))
 
 loop-again : tie.Need-loop-again Inv-loop μ-loop
 loop-again c =
-    let l = c .before .before .before .before .loop in
-    let idle = idleAt (c .before .before .before .before .before .before .args .table .now) in
-    l .inv ∙ every-yes idle (c .before .before .before .before .before .before .args .n) (l .i) (omega arith) (idle-yes _ _ _ (c .before .before .get-wheel .ensures) (c .if1 .left))
+    let at-loop = c .before .before .before .before in
+    let l = at-loop .loop in
+    let idle = idleAt (at-loop .before .before .args .table .now) in
+    l .inv ∙ every-yes idle (at-loop .before .before .args .n) (l .i) (omega arith) (idle-yes _ _ _ (c .before .before .get-wheel .ensures) (c .if1 .left))
 
 returns-2 : tie.Need-returns-2 Inv-loop μ-loop
 unfolding wakes

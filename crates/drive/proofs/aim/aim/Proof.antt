@@ -17,13 +17,19 @@ use Rattle.drive.proofs.aim.aim.Tie as tie
 
 -- ---- once the first refusals have passed
 abbrev table : tie.Else1 → List Float
-table c = c .before .before .before .before .before .before .args .table .now
+table c =
+    let after-start = c .before .before .before .before in
+    after-start .before .before .args .table .now
 
 abbrev whole : tie.Else1 → List ℕ
-whole c = c .before .before .before .before .before .before .args .whole .now
+whole c =
+    let after-start = c .before .before .before .before in
+    after-start .before .before .args .whole .now
 
 abbrev chassis : tie.Else1 → Chassis
-chassis c = c .before .before .before .before .before .before .args .c
+chassis c =
+    let after-start = c .before .before .before .before in
+    after-start .before .before .args .c
 
 passed : (c : tie.Else1) → firstFailed (chassisTests binary32 (table c) (whole c) (chassis c)) ≡ 0
 passed c = sym (c .before .refuse-chassis .ensures) ∙ c .if1 .left
@@ -33,7 +39,10 @@ shape c = chassis-tests-say binary32 _ _ _ (passed c) .shape
 
 -- ---- once the copy is worked on
 abbrev started : tie.After-place → tie.Else1
-started c = c .before .before .before .before .before .before .before .before
+started c =
+    let at-copy = c .before .before .before in
+    let at-work = at-copy .before .before in
+    at-work .before .before .before
 
 abbrev aimed : tie.After-place → List Float
 aimed c = let s = started c in aimedTable binary32 (chassis s) (countOf (whole s)) (table s)
@@ -57,7 +66,9 @@ copy-requires : tie.Need-copy-requires
 copy-requires c κs = let s = shape (c .before .before .before .before) in search needs
 
 place-requires : tie.Need-place-requires
-place-requires c κs = let s = shape (c .before .before .before .before .before .before .before) in search needs
+place-requires c κs =
+    let at-work = c .before .before .before .before in
+    let s = shape (at-work .before .before .before) in search needs
 
 stored-within-requires : tie.Need-stored-within-requires
 stored-within-requires c κs = let s = shape (started (c .before .before)) in search needs
@@ -69,13 +80,21 @@ returns-2 c =
     aim-not-stored _ _ _ _ _ _ (passed (started work)) (placed work) (test .stored-within .ensures) _ (c .before .if2 .taken) (c .not-aimed2 .ensures)
 
 copy-requires-2 : tie.Need-copy-requires-2
-copy-requires-2 c κs = let s = shape (started (c .before .before .before .before .before .before)) in search needs
+copy-requires-2 c κs =
+    let at-work5 = c .before .before .before .before in
+    let s = shape (started (at-work5 .before .before)) in search needs
 
 slice-write-whole : tie.Need-slice-write-whole
-slice-write-whole c = let s = shape (started (c .before .before .before .before .before .before .before .before .before)) in omega arith
+slice-write-whole c =
+    let at-work6 = c .before .before .before in
+    let at-work5 = at-work6 .before .before .before .before in
+    let s = shape (started (at-work5 .before .before)) in omega arith
 
 sights-of-requires : tie.Need-sights-of-requires
-sights-of-requires c κs = let s = shape (started (c .before .before .before .before .before .before .before .before .before .before .before)) in search needs
+sights-of-requires c κs =
+    let at-copy2 = c .before .before .before .before in
+    let at-stored-within = at-copy2 .before .before .before .before in
+    let s = shape (started (at-stored-within .before .before .before)) in search needs
 
 returns-3 : tie.Need-returns-3
 unfolding aimedBy

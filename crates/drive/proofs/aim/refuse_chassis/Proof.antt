@@ -37,7 +37,9 @@ unfolding chassisTests firstFailed
 returns-4 c = search picks depth 40 fits 4000
 
 is-stored-in-range-requires : tie.Need-is-stored-in-range-requires
-is-stored-in-range-requires c κs = let s = shape (c .before .before .before .before .before .before .before) in (s .sized, s .room)
+is-stored-in-range-requires c κs =
+    let at-if2 = c .before .before .before .before in
+    let s = shape (at-if2 .before .before .before) in (s .sized, s .room)
 
 returns-5 : tie.Need-returns-5
 unfolding chassisTests firstFailed

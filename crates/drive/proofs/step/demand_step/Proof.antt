@@ -6,26 +6,48 @@ use Rattle.drive.proofs.step.demand_step.Tie as tie
 
 suspension-pass-requires : tie.Need-suspension-pass-requires
 suspension-pass-requires c κs =
-    let p = c .before .before .before .before .before .before .before .before .before .before .before .pre in
-    (c .before .before .before .cast-pass .kept .0 ∙ p .0, p .1)
+    let at-cast-pass = c .before .before .before in
+    let at-get-chassis = at-cast-pass .before .before .before in
+    let after-start = at-get-chassis .before .before .before .before in
+    let p = after-start .before .pre in
+    (at-cast-pass .cast-pass .kept .0 ∙ p .0, p .1)
 
 spring-pass-requires : tie.Need-spring-pass-requires
 spring-pass-requires c κs =
-    let p = c .before .before .before .before .before .before .before .before .before .before .before .before .before .before .before .pre in
-    (c .before .before .before .suspension-pass .kept .0 ∙ c .before .before .before .before .before .before .before .cast-pass .kept .0 ∙ p .0, p .1)
+    let at-suspension-pass = c .before .before .before in
+    let at-cast-pass = at-suspension-pass .before .before .before .before in
+    let at-get-chassis = at-cast-pass .before .before .before in
+    let after-start = at-get-chassis .before .before .before .before in
+    let p = after-start .before .pre in
+    (at-suspension-pass .suspension-pass .kept .0 ∙ at-cast-pass .cast-pass .kept .0 ∙ p .0, p .1)
 
 directions-in-requires : tie.Need-directions-in-requires
 directions-in-requires c κs =
-    let p = c .before .before .before .before .before .before .before .before .before .before .before .before .before .before .before .before .before .before .pre in
-    (c .before .before .before .before .before .before .suspension-pass .kept .0 ∙ c .before .before .before .before .before .before .before .before .before .before .cast-pass .kept .0 ∙ p .0, p .1)
+    let at-spring-pass = c .before .before in
+    let at-suspension-pass = at-spring-pass .before .before .before .before in
+    let at-cast-pass = at-suspension-pass .before .before .before .before in
+    let at-get-chassis = at-cast-pass .before .before .before in
+    let after-start = at-get-chassis .before .before .before .before in
+    let p = after-start .before .pre in
+    (at-suspension-pass .suspension-pass .kept .0 ∙ at-cast-pass .cast-pass .kept .0 ∙ p .0, p .1)
 
 friction-pass-requires : tie.Need-friction-pass-requires
 friction-pass-requires c κs =
-    let p = c .before .before .before .before .before .before .before .before .before .before .before .before .before .before .before .before .before .before .before .before .pre in
-    (c .before .before .before .before .before .before .before .before .suspension-pass .kept .0 ∙ c .before .before .before .before .before .before .before .before .before .before .before .before .cast-pass .kept .0 ∙ p .0, p .1, p .2)
+    let at-spring-pass = c .before .before .before .before in
+    let at-suspension-pass = at-spring-pass .before .before .before .before in
+    let at-cast-pass = at-suspension-pass .before .before .before .before in
+    let at-get-chassis = at-cast-pass .before .before .before in
+    let after-start = at-get-chassis .before .before .before .before in
+    let p = after-start .before .pre in
+    (at-suspension-pass .suspension-pass .kept .0 ∙ at-cast-pass .cast-pass .kept .0 ∙ p .0, p .1, p .2)
 
 same-length : tie.Need-same-length
-same-length c = c .before .before .friction-pass .kept .0 ∙ c .before .before .before .before .before .before .before .before .before .before .before .suspension-pass .kept .0 ∙ c .before .before .before .before .before .before .before .before .before .before .before .before .before .before .before .cast-pass .kept .0
+same-length c =
+    let at-friction-pass = c .before .before in
+    let at-count-grounded = at-friction-pass .before .before .before .before in
+    let at-table2 = at-count-grounded .before .before .before .before in
+    let at-table = at-table2 .before .before .before .before in
+    at-friction-pass .friction-pass .kept .0 ∙ at-table2 .before .suspension-pass .kept .0 ∙ at-table .before .cast-pass .kept .0
 
 returns : tie.Need-returns
 returns c =
@@ -43,10 +65,10 @@ demand-step-spec =
     tie.close
     (tie.spec
     (λ c κs. c .before .before .before .before .pre .0)
-    (λ c κs. (c .before .before .before .before .before .before .before .pre .0, c .before .before .before .before .before .before .before .pre .1))
+    (λ c κs. let at-get-chassis = c .before .before in let after-start = at-get-chassis .before .before .before .before in (after-start .before .pre .0, after-start .before .pre .1))
     suspension-pass-requires
     spring-pass-requires
-    (λ c κs. c .before .before .before .before .before .before .before .before .before .before .before .before .before .before .before .before .pre .1)
+    (λ c κs. let at-suspension-pass = c .before .before .before .before in let at-cast-pass = at-suspension-pass .before .before .before .before in let at-get-chassis = at-cast-pass .before .before .before in let after-start = at-get-chassis .before .before .before .before in after-start .before .pre .1)
     directions-in-requires
     friction-pass-requires
     same-length

@@ -6,26 +6,42 @@ use Rattle.drive.proofs.step.finish_step.Tie as tie
 
 push-pass-requires : tie.Need-push-pass-requires
 push-pass-requires c κs =
-    let p = c .before .before .before .before .before .before .before .before .before .pre in
-    let scaled = c .before .before .before .before .before .before .rescale-pass in
+    let at-p = c .before .before .before in
+    let at-rescale-pass = at-p .before .before .before in
+    let p = at-rescale-pass .before .before .before .pre in
+    let scaled = at-rescale-pass .rescale-pass in
     (scaled .kept .0 ∙ p .0, p .1)
 
 spin-pass-requires : tie.Need-spin-pass-requires
 spin-pass-requires c κs =
-    let p = c .before .before .before .before .before .before .before .before .before .before .before .pre in
-    (c .before .before .before .before .before .before .before .before .rescale-pass .kept .0 ∙ p .0, p .1)
+    let at-ith = c .before .before .before .before in
+    let at-rescale-pass = at-ith .before .before .before .before in
+    let p = at-rescale-pass .before .before .before .pre in
+    (at-rescale-pass .rescale-pass .kept .0 ∙ p .0, p .1)
 
 put-chassis-requires : tie.Need-put-chassis-requires
-put-chassis-requires c κs = c .before .before .before .spin-pass .kept .0 ∙ c .before .before .before .before .before .before .before .before .before .before .before .before .rescale-pass .kept .0 ∙ c .before .before .before .before .before .before .before .before .before .before .before .before .before .before .before .pre .0
+put-chassis-requires c κs =
+    let at-spin-pass = c .before .before .before in
+    let at-rotate = at-spin-pass .before .before .before .before in
+    let at-table = at-rotate .before .before .before .before in
+    at-spin-pass .spin-pass .kept .0 ∙ at-table .before .rescale-pass .kept .0 ∙ at-table .before .before .before .before .pre .0
 
 same-length : tie.Need-same-length
-same-length c = c .before .before .put-chassis .kept .0 ∙ c .before .before .before .before .before .before .spin-pass .kept .0 ∙ c .before .before .before .before .before .before .before .before .before .before .before .before .before .before .before .rescale-pass .kept .0
+same-length c =
+    let at-put-chassis = c .before .before in
+    let at-spin-pass = at-put-chassis .before .before .before .before in
+    let at-rotate = at-spin-pass .before .before .before .before in
+    let at-table = at-rotate .before .before .before .before in
+    at-put-chassis .put-chassis .kept .0 ∙ at-spin-pass .spin-pass .kept .0 ∙ at-table .before .rescale-pass .kept .0
 
 returns : tie.Need-returns
 returns c =
-    let push = c .before .before .before .before .before .before .before .before in
-    finish-step-of-passes _ _ _ _ _ _ _ _ _ _ _ _ _ _ _ (push .before .before .before .before .before .before .before .rescale-pass .ensures) (push .before .before .before .ith .ensures) (push .before .before .rotate .ensures)
-    (push .push-pass .ensures) (c .before .before .before .before .before .before .spin-pass .ensures) (c .before .before .put-chassis .ensures)
+    let at-put-chassis = c .before .before in
+    let at-spin-pass = at-put-chassis .before .before .before .before in
+    let push = at-spin-pass .before .before in
+    let at-ith = push .before .before .before in
+    finish-step-of-passes _ _ _ _ _ _ _ _ _ _ _ _ _ _ _ (at-ith .before .before .before .before .rescale-pass .ensures) (at-ith .ith .ensures) (push .before .before .rotate .ensures)
+    (push .push-pass .ensures) (at-spin-pass .spin-pass .ensures) (at-put-chassis .put-chassis .ensures)
 
 pub finish-step-spec : {M : Type 1} → statement M
 finish-step-spec =

@@ -10,24 +10,31 @@ use Rattle.exports.proofs.answers.drive_lists.Statement.{statement}
 use Rattle.exports.proofs.answers.drive_lists.Tie as tie
 
 decode-flags-requires : tie.Need-decode-flags-requires
-decode-flags-requires c κs = lists-say _ _ _ _ (c .before .before .before .before .before .before .before .pre) .room
+decode-flags-requires c κs =
+    let after-start = c .before .before .before .before in
+    lists-say _ _ _ _ (after-start .before .before .before .pre) .room
 
 decode-answers-requires : tie.Need-decode-answers-requires
 decode-answers-requires c κs =
-    let h = lists-say _ _ _ _ (c .before .before .before .before .before .before .before .before .pre) in
+    let after-start = c .before .before .before .before in
+    let h = lists-say _ _ _ _ (after-start .before .before .before .before .pre) in
     (h .wheels, h .names, h .sized)
 
 part-drive-end : tie.Need-part-drive-end
 part-drive-end c =
-    let h = lists-say _ _ _ _ (c .before .before .before .before .before .before .before .before .before .before .before .before .pre) in
+    let after-start = c .before .before .before .before in
+    let after-start-2 = after-start .before .before .before .before in
+    let h = lists-say _ _ _ _ (after-start-2 .before .before .before .before .pre) in
     search needs
 
 returns : tie.Need-returns
 returns c =
     let call = c .before .before .before .before in
-    let answers = call .before .before .before .before .before in
+    let at-place = call .before .before .before .before in
+    let answers = at-place .before in
     let flags = answers .before in
-    let a = flags .before .before .before .before .before .before .before .before .args in
+    let after-start = flags .before .before .before .before in
+    let a = after-start .before .before .before .before .args in
     call .drive .ensures
     ∙ ap (λ (r : Frame). driveOf binary32 (a .table .now) (a .whole .now) r (length (a .kinds .now)))
     (frame-is (a .dt) (a .bodies .now) _ _ _ _ _ _ (flags-lent _ (a .dynamic .now) (flags .decode-flags .ensures)) (answers .decode-answers .ensures))

@@ -10,8 +10,9 @@ use Rattle.exports.proofs.results.write_aimed.Tie as tie
 returns : tie.Need-returns
 unfolding aimedList
 returns c =
-    let a = c .before .before .before .before .before .args in
-    c .before .before .put-sights .ensures ∙ aimed-is (a .results .now) (a .speed) (a .sights) (search needs) (search needs)
+    let at-put-sights = c .before .before in
+    let a = at-put-sights .before .before .before .args in
+    at-put-sights .put-sights .ensures ∙ aimed-is (a .results .now) (a .speed) (a .sights) (search needs) (search needs)
 
 pub write-aimed-spec : {M : Type 1} → statement M
 write-aimed-spec = tie.close (tie.spec (λ c. search needs) (λ c κs. search needs) (λ c. c .before .before .put-sights .kept .0 ∙ simp length-set) returns)

@@ -27,15 +27,17 @@ loop-holds c = (search needs, rw sub-zero)
 loop-again : tie.Need-loop-again Inv-loop μ-loop
 unfolding admittedAt groundedAt
 loop-again c =
-    let l = c .before .before .before .before .before .loop in
-    let e = rw (c .before .before .is-grounded .ensures) at (c .before .is-admitted-at .ensures) in
+    let at-is-grounded = c .before .before in
+    let l = at-is-grounded .before .before .before .loop in
+    let e = rw (at-is-grounded .is-grounded .ensures) at (c .before .is-admitted-at .ensures) in
     (omega arith, l .inv .1 ∙ every-yes _ _ (l .i) (omega arith) (told _ _ _ e (c .if1 .taken)))
 
 returns : tie.Need-returns Inv-loop μ-loop
 unfolding admittedAt groundedAt
 returns c =
-    let l = c .before .before .before .before .before .loop in
-    let e = rw (c .before .before .is-grounded .ensures) at (c .before .is-admitted-at .ensures) in
+    let at-is-grounded = c .before .before in
+    let l = at-is-grounded .before .before .before .loop in
+    let e = rw (at-is-grounded .is-grounded .ensures) at (c .before .is-admitted-at .ensures) in
     sym (l .inv .1 ∙ every-no _ _ (l .i) (omega arith) (told _ _ _ e (c .if1 .left)))
 
 returns-2 : tie.Need-returns-2 Inv-loop μ-loop

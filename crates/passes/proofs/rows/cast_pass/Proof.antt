@@ -17,7 +17,9 @@ abbrev μ-loop : tie.MeasureT-loop
 
 loop-again : tie.Need-loop-again Inv-loop μ-loop
 unfolding changed castAt
-loop-again c = passing-again _ _ _ _ _ _ (c .before .before .before .before .before .before .loop .inv) (omega arith) (omega arith) (c .before .before .cast-wheel .ensures)
+loop-again c =
+    let at-cast-wheel = c .before .before in
+    passing-again _ _ _ _ _ _ (at-cast-wheel .before .before .before .before .loop .inv) (omega arith) (omega arith) (at-cast-wheel .cast-wheel .ensures)
 
 returns : tie.Need-returns Inv-loop μ-loop
 unfolding casts

@@ -28,7 +28,8 @@ loop-again : tie.Need-loop-again Inv-loop μ-loop
 unfolding changed demandAt
 loop-again c =
     let turn = c .before .before in
-    passing-again _ _ _ _ _ _ (turn .before .before .before .before .before .loop .inv) (omega arith) (omega arith) (turn .friction-wheel .ensures)
+    let after-loop = turn .before .before .before .before in
+    passing-again _ _ _ _ _ _ (after-loop .before .loop .inv) (omega arith) (omega arith) (turn .friction-wheel .ensures)
 
 returns : tie.Need-returns Inv-loop μ-loop
 unfolding demands

@@ -6,7 +6,8 @@ use Rattle.passes.proofs.rows.spin_wheel.Tie as tie
 
 returns : tie.Need-returns
 returns c =
-    spin-put _ _ _ _ _ (c .before .before .before .before .before .before .get-wheel .ensures) _ _ _ _ (c .before .before .before .before .before .update-rotation .ensures) (c .before .before .put-rotation .ensures)
+    let at-put-rotation = c .before .before in
+    spin-put _ _ _ _ _ (at-put-rotation .before .before .before .before .get-wheel .ensures) _ _ _ _ (at-put-rotation .before .before .before .update-rotation .ensures) (at-put-rotation .put-rotation .ensures)
 
 pub spin-wheel-spec : {M : Type 1} → statement M
 spin-wheel-spec = tie.close (tie.spec (λ c κs. search needs) (λ c κs. search needs) (λ c κs. search needs) (λ c. search needs) returns)

@@ -18,7 +18,9 @@ abbrev μ-loop : tie.MeasureT-loop
 
 loop-again : tie.Need-loop-again Inv-loop μ-loop
 unfolding changed suspendAt groundedAt
-loop-again c = passing-again _ _ _ _ _ _ (c .before .before .before .before .before .before .before .loop .inv) (omega arith) (omega arith) (rw (c .before .before .before .is-grounded .ensures) at (c .before .before .suspend-wheel .ensures))
+loop-again c =
+    let at-is-grounded = c .before .before .before in
+    passing-again _ _ _ _ _ _ (at-is-grounded .before .before .before .before .loop .inv) (omega arith) (omega arith) (rw (at-is-grounded .is-grounded .ensures) at (c .before .before .suspend-wheel .ensures))
 
 returns : tie.Need-returns Inv-loop μ-loop
 unfolding suspensions

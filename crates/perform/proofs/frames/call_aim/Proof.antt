@@ -20,20 +20,25 @@ abbrev decoded : tie.After-aim → tie.After-chassis-from
 decoded c = c .before .before .before .before
 
 abbrev start : tie.After-aim → tie.Start
-start c = decoded c .before .before .before .before .before
+start c =
+    let at-place = c .before .before .before .before in
+    decoded at-place .before
 
 aimed : (c : tie.After-aim) → let a = start c .args in after (c .aim .result) (c .aim .last .0) (c .aim .last .1 .0) ≡ aimOf format (a .table .now) (a .whole .now) (chassisFrom format (a .words .now))
 aimed c = rw (decoded c .chassis-from .ensures) at (c .aim .ensures)
 
 abbrev from-accepted : tie.Else1 → tie.After-aim
-from-accepted c = c .before .before .before .before .before
+from-accepted c =
+    let at-place = c .before .before .before .before in
+    at-place .before
 
 room : (c : tie.Else1) → countOf (start (from-accepted c) .args .whole .now) ≤ at.WHEELS
 room c = accepted-aim-says format _ _ _ (aimed (from-accepted c)) (c .if1 .left) .shape .room
 
 returns : tie.Need-returns
 returns c =
-    let call = c .before .before .before .before .before in
+    let at-place = c .before .before .before .before in
+    let call = at-place .before in
     let m = start call .args .whole .now in
     told-refused _ (aimResults format (countOf m)) (call .aim .result) _ _ _ (aimed call) _ (c .if1 .taken)
 

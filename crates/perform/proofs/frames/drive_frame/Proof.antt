@@ -17,7 +17,8 @@ returns : tie.Need-returns
 unfolding frameFrom
 returns c =
     let call = c .before .before .before .before in
-    let flags = call .before .before .before .before .before .before in
+    let at-place = call .before .before .before .before in
+    let flags = at-place .before .before in
     let bodies = flags .before .before .before in
     let count = bodies .before .before in
     rw (

@@ -6,7 +6,7 @@ use Rattle.perform.proofs.frames.drive_on.Statement.{statement}
 use Rattle.perform.proofs.frames.drive_on.Tie as tie
 
 -- how many answers the words have
-counted : (c : tie.After-answer-count-from) → let l = c .before .before .before .before .before .before .before .before .args .words .now in c .answer-count-from .result ≡ answersOf l
+counted : (c : tie.After-answer-count-from) → let after-start = c .before .before .before .before in let l = after-start .before .before .before .before .args .words .now in c .answer-count-from .result ≡ answersOf l
 unfolding answersOf
 counted c = rw (← c .before .body-count-from .ensures) (c .answer-count-from .ensures)
 

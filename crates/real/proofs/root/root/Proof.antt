@@ -41,7 +41,9 @@ positive-requires : tie.Need-positive-requires
 positive-requires c κs = is-positive binary32 (bits (c .before .before .before .before)) (c .before .before .if2 .left) (c .if4 .left)
 
 returns-5 : tie.Need-returns-5
-returns-5 c = read (c .before .before .before .before .before) _ (c .positive .ensures)
+returns-5 c =
+    let at-place = c .before .before .before .before in
+    read (at-place .before) _ (c .positive .ensures)
 
 pub root-spec : {M : Type 1} → statement M
 root-spec = tie.close (tie.spec returns float-to-bits-bits returns-2 returns-3 returns-4 positive-requires returns-5)

@@ -11,8 +11,9 @@ use Rattle.scenario.proofs.results.put_numbers.Tie as tie
 
 returns : tie.Need-returns
 returns c =
-    let a = c .before .before .before .before .before .before .args in
-    paste-is (a .words .now) _ (wordsOf format (a .numbers .now)) (a .a) (length (a .numbers .now)) (c .before .before .write-numbers .ensures) (sym (length-words format (a .numbers .now)))
+    let at-write-numbers = c .before .before in
+    let a = at-write-numbers .before .before .before .before .args in
+    paste-is (a .words .now) _ (wordsOf format (a .numbers .now)) (a .a) (length (a .numbers .now)) (at-write-numbers .write-numbers .ensures) (sym (length-words format (a .numbers .now)))
 
 pub put-numbers-spec : {M : Type 1} → statement M
 put-numbers-spec = tie.close (tie.spec (λ c. search needs) (λ c. search needs) (λ c. search needs) (λ c. search needs) (λ c. search needs) (λ c κs. search needs) (λ c. search needs) returns)

@@ -15,7 +15,9 @@ abbrev μ-loop : tie.MeasureT-loop
 
 -- the loop's place before a code is taken
 abbrev from-loop : tie.After-take-code Inv-loop μ-loop → tie.At-loop Inv-loop μ-loop
-from-loop c = c .before .before .before .before .before .before
+from-loop c =
+    let at-place = c .before .before .before .before in
+    at-place .before .before
 
 loop-holds : tie.Need-loop-holds Inv-loop μ-loop
 loop-holds c = none-run _ _ _ _ _ (c .before .before .before .before .pre .0) (c .before .before .before .before .pre .1)
@@ -28,16 +30,23 @@ sub-take-code c = c .before .loop .inv .within
 
 take-code-requires : tie.Need-take-code-requires Inv-loop μ-loop
 take-code-requires c κs =
-    let at = c .before .before .before .before .before in
-    (at .loop .inv .rows, at .loop .inv .marks, omega (arith, at .loop .inv .room, at .loop .inv .sized, c .before .before .before .before .if1 .left))
+    let at-if1 = c .before .before .before .before in
+    let at = at-if1 .before in
+    (at .loop .inv .rows, at .loop .inv .marks, omega (arith, at .loop .inv .room, at .loop .inv .sized, at-if1 .if1 .left))
 
 -- a code takes a byte at least, and no more than are left
 took : (c : tie.After-known-told Inv-loop μ-loop) →
-    let at = from-loop (c .before .before .before .before .before .before .before .before .before) in
-    (0 < c .before .next .given .0 .0) × (at .loop .taken + c .before .next .given .0 .0 ≤ length (at .before .before .before .before .before .args .bytes .now))
+    let at-place = c .before .before .before .before in
+    let at-place-2 = at-place .before .before .before .before in
+    let at = from-loop (at-place-2 .before) in
+    let after-start = at .before .before .before .before in
+    (0 < c .before .next .given .0 .0) × (at .loop .taken + c .before .next .given .0 .0 ≤ length (after-start .before .args .bytes .now))
 took c =
-    let call = c .before .before .before .before .before .before .before .before .before in
-    next-within (from-loop call .loop .inv) (call .before .before .before .before .before .if1 .left) (call .take-code .kept .1 .1 .1 .1 .0) (call .take-code .ensures) _ (c .before .next .given .1)
+    let at-place = c .before .before .before .before in
+    let at-place-2 = at-place .before .before .before .before in
+    let call = at-place-2 .before in
+    let after-if1 = call .before .before .before .before in
+    next-within (from-loop call .loop .inv) (after-if1 .before .if1 .left) (call .take-code .kept .1 .1 .1 .1 .0) (call .take-code .ensures) _ (c .before .next .given .1)
 
 add-taken : tie.Need-add-taken Inv-loop μ-loop
 add-taken c = omega (arith, took c .1)
@@ -47,8 +56,11 @@ loop-less c = omega (arith, took c .0, took c .1)
 
 loop-again : tie.Need-loop-again Inv-loop μ-loop
 loop-again c =
-    let call = c .before .before .before .before .before .before .before .before .before in
-    one-run (from-loop call .loop .inv) (call .before .before .before .before .before .if1 .left) (call .take-code .kept .1 .1 .1 .1 .0) (call .take-code .ensures) _ (c .before .next .given .1)
+    let at-place = c .before .before .before .before in
+    let at-place-2 = at-place .before .before .before .before in
+    let call = at-place-2 .before in
+    let after-if1 = call .before .before .before .before in
+    one-run (from-loop call .loop .inv) (after-if1 .before .if1 .left) (call .take-code .kept .1 .1 .1 .1 .0) (call .take-code .ensures) _ (c .before .next .given .1)
     (call .take-code .kept .1 .1 .0) (call .take-code .kept .1 .1 .1 .0)
 
 returns : tie.Need-returns Inv-loop μ-loop
@@ -56,13 +68,17 @@ returns c = stands-full (c .before .loop .inv) (c .if1 .taken)
 
 returns-2 : tie.Need-returns-2 Inv-loop μ-loop
 returns-2 c =
-    let call = c .before .before .before .before .before .before .before .before in
-    stands-ended (from-loop call .loop .inv) (call .before .before .before .before .before .if1 .left) (call .take-code .kept .1 .1 .1 .1 .0) (call .take-code .ensures) (c .enum-told .given .1)
+    let at-place = c .before .before .before .before in
+    let call = at-place .before .before .before .before in
+    let after-if1 = call .before .before .before .before in
+    stands-ended (from-loop call .loop .inv) (after-if1 .before .if1 .left) (call .take-code .kept .1 .1 .1 .1 .0) (call .take-code .ensures) (c .enum-told .given .1)
 
 returns-3 : tie.Need-returns-3 Inv-loop μ-loop
 returns-3 c =
-    let call = c .before .before .before .before .before .before .before .before in
-    stands-more (from-loop call .loop .inv) (call .before .before .before .before .before .if1 .left) (call .take-code .kept .1 .1 .1 .1 .0) (call .take-code .ensures) (c .enum-told2 .given .1)
+    let at-place = c .before .before .before .before in
+    let call = at-place .before .before .before .before in
+    let after-if1 = call .before .before .before .before in
+    stands-more (from-loop call .loop .inv) (after-if1 .before .if1 .left) (call .take-code .kept .1 .1 .1 .1 .0) (call .take-code .ensures) (c .enum-told2 .given .1)
 
 pub run-codes-spec : {M : Type 1} → statement M
 run-codes-spec =

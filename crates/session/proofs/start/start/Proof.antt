@@ -12,10 +12,11 @@ use Rattle.session.proofs.start.start.Tie as tie
 returns : tie.Need-returns
 unfolding title
 returns c =
-    let start = c .before .before .before .before .before in
+    let at-set-up = c .before .before in
+    let start = at-set-up .before .before .before in
     let rows : length (start .args .table .now) ≡ places.SIZE = search needs in
     let marks : length (start .args .whole .now) ≡ places.WHOLE = search needs in
-    record { puts = c .put-title .ensures; text-fits = omega (arith, c .put-title .ensures .end); car = set-up-starts _ _ _ _ _ rows marks (c .before .before .set-up .ensures) }
+    record { puts = c .put-title .ensures; text-fits = omega (arith, c .put-title .ensures .end); car = set-up-starts _ _ _ _ _ rows marks (at-set-up .set-up .ensures) }
 
 pub start-spec : {M : Type 1} → statement M
 start-spec = tie.close (tie.spec (λ c κs. tt) (λ c κs. search needs) returns)

@@ -6,14 +6,17 @@ use Rattle.session.proofs.turns.take_code.Tie as tie
 
 make-call-requires : tie.Need-make-call-requires
 make-call-requires c κs =
-    let told = c .before .before .before .before .before in
+    let at-place = c .before .before .before .before in
+    let told = at-place .before in
     let read = told .before .before in
     (search needs, search needs, search needs, words-counted (read .read-code .ensures) _ _ (told .code .given .1))
 
 returns : tie.Need-returns
 returns c =
-    let call = c .before .before .before .before .before .before in
-    let told = call .before .before .before .before .before .before in
+    let at-place = c .before .before .before .before in
+    let call = at-place .before .before in
+    let at-place-2 = call .before .before .before .before in
+    let told = at-place-2 .before .before in
     let read = told .before .before in
     takes-whole (read .read-code .ensures) _ _ _ _ (told .code .given .1) (call .make-call .ensures)
 

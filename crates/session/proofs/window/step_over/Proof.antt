@@ -7,19 +7,28 @@ use Rattle.session.proofs.window.step_over.Statement.{statement}
 use Rattle.session.proofs.window.step_over.Tie as tie
 
 slice-aggregate-run-codes : tie.Need-slice-aggregate-run-codes
-slice-aggregate-run-codes c = sym (length-take-le _ _ (c .before .before .before .before .before .pre .0))
+slice-aggregate-run-codes c =
+    let after-start = c .before .before .before .before in
+    sym (length-take-le _ _ (after-start .before .pre .0))
 
 shift-requires : tie.Need-shift-requires
 shift-requires c κs =
-    let run = c .before .before .before .before .before .before .before in
-    let start = run .before .before .before .before .before .before .before .before .before in
+    let at-place = c .before .before .before .before in
+    let run = at-place .before .before .before in
+    let at-place-2 = run .before .before .before .before in
+    let at-place-3 = at-place-2 .before .before .before .before in
+    let start = at-place-3 .before in
     (took-within _ _ _ _ _ (run .run-codes .ensures) (start .pre .0), start .pre .0)
 
 returns : tie.Need-returns
 returns c =
-    let run = c .before .before .before .before .before .before .before .before .before .before in
-    let start = run .before .before .before .before .before .before .before .before .before in
-    step-made _ _ _ _ _ (run .run-codes .ensures) (start .pre .0) (c .before .before .shift .ensures) (c .before .before .shift .kept .0) (run .run-codes .kept .1 .1 .1 .1 .0)
+    let at-shift = c .before .before in
+    let at-place = at-shift .before .before .before .before in
+    let run = at-place .before .before .before .before in
+    let at-place-2 = run .before .before .before .before in
+    let at-place-3 = at-place-2 .before .before .before .before in
+    let start = at-place-3 .before in
+    step-made _ _ _ _ _ (run .run-codes .ensures) (start .pre .0) (at-shift .shift .ensures) (at-shift .shift .kept .0) (run .run-codes .kept .1 .1 .1 .1 .0)
 
 pub step-over-spec : {M : Type 1} → statement M
 step-over-spec =

@@ -59,19 +59,22 @@ add-taken c =
 
 loop-less : tie.Need-loop-less Inv-loop μ-loop
 loop-less c =
-    let word = c .before .before .before .before .before in
+    let at-place = c .before .before .before .before in
+    let word = at-place .before in
     omega (arith, has-room (turn (word .before .before) .loop .inv))
 
 loop-again : tie.Need-loop-again Inv-loop μ-loop
 loop-again c =
-    let word = c .before .before .before .before .before in
+    let at-next = c .before .before .before in
+    let word = at-next .before .before in
     let at = word .before .before in
-    one-more (turn at .loop .inv) _ _ (numbered at _ (word .number .given .1)) _ (c .before .before .before .next .ensures)
+    one-more (turn at .loop .inv) _ _ (numbered at _ (word .number .given .1)) _ (at-next .next .ensures)
     (sym (c .before .before .verdict .ensures) ∙ c .enum-told .given .1)
 
 shown-requires : tie.Need-shown-requires Inv-loop μ-loop
 shown-requires c κs =
-    let word = c .before .before .before .before .before .before in
+    let at-place = c .before .before .before .before in
+    let word = at-place .before .before in
     simp length-set (turn (word .before .before) .loop .inv .sized)
 
 shown-requires-2 : tie.Need-shown-requires-2 Inv-loop μ-loop
@@ -82,17 +85,19 @@ shown-requires-3 c κs = turn (c .before .before .before) .loop .inv .sized
 
 returns : tie.Need-returns Inv-loop μ-loop
 returns c =
-    let word = c .before .before .before .before .before in
+    let at-next = c .before .before .before in
+    let word = at-next .before .before in
     let at = word .before .before in
-    ends-whole (turn at .loop .inv) _ _ (numbered at _ (word .number .given .1)) _ (c .before .before .before .next .ensures)
+    ends-whole (turn at .loop .inv) _ _ (numbered at _ (word .number .given .1)) _ (at-next .next .ensures)
     (sym (c .before .before .verdict .ensures) ∙ c .enum-told2 .given .1)
 
 returns-2 : tie.Need-returns-2 Inv-loop μ-loop
 returns-2 c =
     let told = c .before .before in
-    let word = told .before .before .before .before .before in
+    let at-next = told .before .before .before in
+    let word = at-next .before .before in
     let at = word .before .before in
-    ends-wrong (turn at .loop .inv) _ _ (numbered at _ (word .number .given .1)) _ (told .before .before .before .next .ensures)
+    ends-wrong (turn at .loop .inv) _ _ (numbered at _ (word .number .given .1)) _ (at-next .next .ensures)
     _ (sym (told .before .before .verdict .ensures) ∙ told .enum-told3 .given .1) (c .shown .ensures)
 
 returns-3 : tie.Need-returns-3 Inv-loop μ-loop

@@ -38,21 +38,24 @@ add-k c = search needs
 
 mul-unit : tie.Need-mul-unit Inv-loop μ-loop
 mul-unit c =
-    let at = c .before .before .before .before .before in
-    let h = sym (c .before .before .before .bad-group .ensures) ∙ c .before .before .if2 .left in
+    let at-bad-group = c .before .before .before in
+    let at = at-bad-group .before .before in
+    let h = sym (at-bad-group .bad-group .ensures) ∙ c .before .before .if2 .left in
     let few : last (at .before .before .before .args .bits) ≤ last 32 = omega (arith, at .before .before .before .pre) in
     omega (arith, unit-fits (at .before .loop .inv) (at .if1 .left) _ h (c .before .wide .ensures) (last 32) few (c .if3 .left))
 
 loop-less : tie.Need-loop-less Inv-loop μ-loop
 loop-less c =
-    let at = c .before .before .before .before .before in
-    let h = sym (c .before .before .before .bad-group .ensures) ∙ c .before .before .if2 .left in
+    let at-bad-group = c .before .before .before in
+    let at = at-bad-group .before .before in
+    let h = sym (at-bad-group .bad-group .ensures) ∙ c .before .before .if2 .left in
     omega (arith, not-last _ _ _ h (at .before .loop .inv .few) (c .if3 .left))
 
 loop-again : tie.Need-loop-again Inv-loop μ-loop
 loop-again c =
-    let at = c .before .before .before .before .before in
-    let h = sym (c .before .before .before .bad-group .ensures) ∙ c .before .before .if2 .left in
+    let at-bad-group = c .before .before .before in
+    let at = at-bad-group .before .before in
+    let h = sym (at-bad-group .bad-group .ensures) ∙ c .before .before .if2 .left in
     one-more (at .before .loop .inv) (at .if1 .left) _ h (c .before .wide .ensures) (c .if3 .left)
 
 returns : tie.Need-returns Inv-loop μ-loop
@@ -65,8 +68,9 @@ returns-2 c =
 
 returns-3 : tie.Need-returns-3 Inv-loop μ-loop
 returns-3 c =
-    let at = c .before .before .before .before .before in
-    let h = sym (c .before .before .before .bad-group .ensures) ∙ c .before .before .if2 .left in
+    let at-bad-group = c .before .before .before in
+    let at = at-bad-group .before .before in
+    let h = sym (at-bad-group .bad-group .ensures) ∙ c .before .before .if2 .left in
     ends-value (at .before .loop .inv) (at .if1 .left) _ h (c .before .wide .ensures) (c .if3 .taken)
 
 pub read-number-spec : {M : Type 1} → statement M

@@ -7,8 +7,9 @@ use Rattle.table.proofs.parts.write_info.Tie as tie
 
 returns : tie.Need-returns
 returns c =
-    let n = c .before .before .before .before .before in
-    part-written (writes .info _) _ _ (n .before .before .pre) (c .before .before .copy .ensures ∙ n .info-numbers .ensures)
+    let at-copy = c .before .before in
+    let n = at-copy .before .before .before in
+    part-written (writes .info _) _ _ (n .before .before .pre) (at-copy .copy .ensures ∙ n .info-numbers .ensures)
 
 pub write-info-spec : {M : Type 1} → statement M
 write-info-spec = tie.close (tie.spec (λ c κs. tt) (λ c. search needs) (λ c. search needs) (λ c. search needs) (λ c. search needs) (λ c κs. search needs) (λ c. search needs) returns)

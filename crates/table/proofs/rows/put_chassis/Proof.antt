@@ -11,9 +11,10 @@ use Rattle.table.proofs.rows.put_chassis.Tie as tie
 returns : tie.Need-returns
 unfolding putChassis
 returns c =
-    let n = c .before .before .before .before .before in
+    let at-copy = c .before .before in
+    let n = at-copy .before .before .before in
     let a = n .before .before .args in
-    paste-is (a .table .now) _ (chassisList (a .c)) 0 at.KEPT (c .before .before .copy .ensures ∙ n .chassis-numbers .ensures) (sym (length-chassis (a .c)))
+    paste-is (a .table .now) _ (chassisList (a .c)) 0 at.KEPT (at-copy .copy .ensures ∙ n .chassis-numbers .ensures) (sym (length-chassis (a .c)))
 
 pub put-chassis-spec : {M : Type 1} → statement M
 put-chassis-spec = tie.close (tie.spec (λ c κs. tt) (λ c. search needs) (λ c. search needs) (λ c. search needs) (λ c. search needs) (λ c κs. search needs) (λ c. search needs) returns)

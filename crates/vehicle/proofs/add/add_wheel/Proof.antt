@@ -12,10 +12,10 @@ use Rattle.vehicle.proofs.add.add_wheel.Statement.{statement}
 use Rattle.vehicle.proofs.add.add_wheel.Tie as tie
 
 -- what was tested, once it is not refused
-tested : (c : tie.Else1) → let a = c .before .before .before .before .before .before .args in AddTested (a .table .now) (a .whole .now)
+tested : (c : tie.Else1) → let after-start = c .before .before .before .before in let a = after-start .before .before .args in AddTested (a .table .now) (a .whole .now)
 tested c = add-says _ _ _ (sym (c .before .refuse-add .ensures) ∙ c .if1 .left)
 
-place : (c : tie.Else1) (k : ℕ) → k < at.WHOLE → k < length (c .before .before .before .before .before .before .args .whole .now)
+place : (c : tie.Else1) (k : ℕ) → let after-start = c .before .before .before .before in k < at.WHOLE → k < length (after-start .before .before .args .whole .now)
 place c k l = let s = tested c in omega arith
 
 returns : tie.Need-returns
@@ -32,13 +32,19 @@ put-wheel-requires : tie.Need-put-wheel-requires
 put-wheel-requires c κs = let r = tested (c .before .before .before) in omega arith
 
 add-whole : tie.Need-add-whole
-add-whole c = let r = tested (c .before .before .before .before .before .before) in omega arith
+add-whole c =
+    let at-place = c .before .before .before .before in
+    let r = tested (at-place .before .before) in omega arith
 
 slice-write-whole : tie.Need-slice-write-whole
-slice-write-whole c = let r = tested (c .before .before .before .before .before .before) in omega arith
+slice-write-whole c =
+    let at-place = c .before .before .before .before in
+    let r = tested (at-place .before .before) in omega arith
 
 slice-write-whole-2 : tie.Need-slice-write-whole-2
-slice-write-whole-2 c = let l = place (c .before .before .before .before .before .before) at.MARK (omega arith) in search needs
+slice-write-whole-2 c =
+    let at-place = c .before .before .before .before in
+    let l = place (at-place .before .before) at.MARK (omega arith) in search needs
 
 returns-2 : tie.Need-returns-2
 unfolding addWheel

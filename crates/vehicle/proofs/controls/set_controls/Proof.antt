@@ -11,7 +11,7 @@ use Rattle.vehicle.proofs.controls.set_controls.Statement.{statement}
 use Rattle.vehicle.proofs.controls.set_controls.Tie as tie
 
 -- what was tested, once it is not refused
-tested : (c : tie.Else1) → let a = c .before .before .before .before .before .before .args in ControlsTested (a .table .now) (a .whole .now) (a .wheel)
+tested : (c : tie.Else1) → let after-start = c .before .before .before .before in let a = after-start .before .before .args in ControlsTested (a .table .now) (a .whole .now) (a .wheel)
 tested c = set-controls-says _ _ _ _ _ (sym (c .before .refuse-controls .ensures) ∙ c .if1 .left)
 
 returns : tie.Need-returns
@@ -23,13 +23,15 @@ put-controls-requires c κs = let r = tested (c .before) in omega arith
 
 slice-read-if2 : tie.Need-slice-read-if2
 slice-read-if2 c =
-    let accepted = c .before .before .before .before .before in
+    let at-place = c .before .before .before .before in
+    let accepted = at-place .before in
     let r = tested accepted in
     omega arith
 
 slice-write-whole : tie.Need-slice-write-whole
 slice-write-whole c =
-    let accepted = c .before .before .before .before .before .before in
+    let at-place = c .before .before .before .before in
+    let accepted = at-place .before .before in
     let r = tested accepted in
     omega arith
 

@@ -21,8 +21,9 @@ get-wheel-requires c κs =
 returns-2 : tie.Need-returns-2
 unfolding readWheel
 returns-2 c =
-    let a = c .before .before .before .before .before .before .args in
-    settled-done _ _ _ _ _ _ _ (c .before .before .before .refuse-read .ensures) (c .before .before .if1 .left)
+    let at-refuse-read = c .before .before .before in
+    let a = at-refuse-read .before .before .before .args in
+    settled-done _ _ _ _ _ _ _ (at-refuse-read .refuse-read .ensures) (c .before .before .if1 .left)
     (ap (λ (r : Reading). after r (a .table .now) (a .whole .now)) (c .reading .ensures ∙ ap readingOf (c .before .get-wheel .ensures)))
 
 pub read-wheel-spec : {M : Type 1} → statement M

@@ -26,10 +26,10 @@ whole-set-up (a ∷ b ∷ c ∷ d ∷ []) up forward h = refl
 whole-set-up (a ∷ b ∷ c ∷ d ∷ e ∷ m) up forward h = absurd (omega arith)
 
 -- what was tested, once it is not refused
-tested : (c : tie.Else1) → let a = c .before .before .before .before .before .before .args in SetUpTested (a .table .now) (a .whole .now) (a .up) (a .forward)
+tested : (c : tie.Else1) → let after-start = c .before .before .before .before in let a = after-start .before .before .args in SetUpTested (a .table .now) (a .whole .now) (a .up) (a .forward)
 tested c = set-up-says _ _ _ _ (sym (c .before .refuse-set-up .ensures) ∙ c .if1 .left)
 
-place : (c : tie.Else1) (k : ℕ) → k < at.WHOLE → k < length (c .before .before .before .before .before .before .args .whole .now)
+place : (c : tie.Else1) (k : ℕ) → let after-start = c .before .before .before .before in k < at.WHOLE → k < length (after-start .before .before .args .whole .now)
 place c k l = let s = tested c .sizes in omega arith
 
 returns : tie.Need-returns
@@ -40,23 +40,34 @@ copy-requires : tie.Need-copy-requires
 copy-requires c κs = let s = tested (c .before .before) .sizes in omega arith
 
 slice-write-whole : tie.Need-slice-write-whole
-slice-write-whole c = let s = tested (c .before .before .before .before .before) .sizes in omega arith
+slice-write-whole c =
+    let at-place = c .before .before .before .before in
+    let s = tested (at-place .before) .sizes in omega arith
 
 slice-write-whole-2 : tie.Need-slice-write-whole-2
-slice-write-whole-2 c = let l = place (c .before .before .before .before .before) at.MARK (omega arith) in search needs
+slice-write-whole-2 c =
+    let at-place = c .before .before .before .before in
+    let l = place (at-place .before) at.MARK (omega arith) in search needs
 
 slice-write-whole-3 : tie.Need-slice-write-whole-3
-slice-write-whole-3 c = let l = place (c .before .before .before .before .before) at.UP (omega arith) in search needs
+slice-write-whole-3 c =
+    let at-place = c .before .before .before .before in
+    let l = place (at-place .before) at.UP (omega arith) in search needs
 
 slice-write-whole-4 : tie.Need-slice-write-whole-4
-slice-write-whole-4 c = let l = place (c .before .before .before .before .before) at.FORWARD (omega arith) in search needs
+slice-write-whole-4 c =
+    let at-place = c .before .before .before .before in
+    let l = place (at-place .before) at.FORWARD (omega arith) in search needs
 
 returns-2 : tie.Need-returns-2
 unfolding setUp ofBits
 returns-2 c =
-    let a = c .before .before .before .before .before .before .before .before .before .before .before .args in
-    settled-done _ _ _ _ _ _ _ (c .before .before .before .before .before .before .refuse-set-up .ensures) (c .before .before .before .before .before .if1 .left)
-    (rw (c .before .before .copy .ensures) (ap (after 0 (replicate at.SIZE zero)) (whole-set-up (a .whole .now) (a .up) (a .forward) (tested (c .before .before .before .before .before) .sizes .four))))
+    let at-copy = c .before .before in
+    let at-refuse-set-up = at-copy .before .before .before .before in
+    let after-start = at-refuse-set-up .before .before .before .before in
+    let a = after-start .before .args in
+    settled-done _ _ _ _ _ _ _ (at-refuse-set-up .refuse-set-up .ensures) (at-copy .before .before .before .if1 .left)
+    (rw (at-copy .copy .ensures) (ap (after 0 (replicate at.SIZE zero)) (whole-set-up (a .whole .now) (a .up) (a .forward) (tested (at-copy .before .before .before) .sizes .four))))
 
 pub set-up-spec : {M : Type 1} → statement M
 set-up-spec =
