@@ -5,6 +5,7 @@ use body::Chassis;
 use drive::Driven;
 use table::layout::BODY;
 use table::layout::SIZE;
+use table::layout::WHEELS;
 use tyre::WheelTuning;
 use vector::Inertia;
 use vector::Pose;
@@ -103,18 +104,18 @@ fn read(table: &[f32], whole: &[u32], wheel: u32) {
 }
 
 // Flat ground under every wheel, at three quarters of its ray.
-fn on_the_ground() -> [RayAnswer; 16] {
-    [RayAnswer::Hit(0.75, v(0.0, 1.0, 0.0), 0); 16]
+fn on_the_ground() -> [RayAnswer; WHEELS] {
+    [RayAnswer::Hit(0.75, v(0.0, 1.0, 0.0), 0); WHEELS]
 }
 
-fn go(table: &mut [f32], whole: &mut [u32], answers: [RayAnswer; 16]) -> Driven {
+fn go(table: &mut [f32], whole: &mut [u32], answers: [RayAnswer; WHEELS]) -> Driven {
     let bodies = [0.0; 0];
     let dynamic = [false; 0];
     drive::advance::drive(table, whole, 0.5, &bodies, &dynamic, answers, 4)
 }
 
 // An aim with this velocity, and a drive with what the rays met.
-fn frame(table: &mut [f32], whole: &mut [u32], linvel: Vector, answers: [RayAnswer; 16]) {
+fn frame(table: &mut [f32], whole: &mut [u32], linvel: Vector, answers: [RayAnswer; WHEELS]) {
     show::aimed(drive::aim::aim(table, whole, chassis(linvel)));
     show::driven(go(table, whole, answers));
 }
@@ -155,7 +156,7 @@ fn main() {
         &mut table,
         &mut whole,
         v(-12.0, 0.0, 5.0),
-        [RayAnswer::Nothing; 16],
+        [RayAnswer::Nothing; WHEELS],
     );
     read(&table, &whole, 0);
     refusals_met::set_up(&mut table, &mut whole);

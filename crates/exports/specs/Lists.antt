@@ -1,12 +1,12 @@
 -- The lists of a drive: a flag for each ground body, and for each wheel the kind of its ray answer, the body that it names and the ray's numbers. Definitions only.
 -- Lists that do not fit together are refusal 6, at its place in the order 1, 5, 6, 2, 10, 7, 8: after the drive's own 1 and 5, before the rest.
 use Prim.Native.Nat.{ℕ, _+_, _*_}
-use mathlib.Core.Bool.{Bool, false}
+use mathlib.Core.Bool.{Bool}
 use mathlib.Core.List.{List, [], _∷_}
 use lib.Dec.{eqb, leb}
 use lib.ListN.{length, getD, replicate}
 use lib.Ieee.{Float}
-use Rattle.lists.specs.Pick.{pick}
+use Rattle.lists.specs.Pick.{pick, _and_}
 use Rattle.lists.specs.Part.{paste}
 use Rattle.lists.specs.All.{all}
 use Rattle.lists.specs.Counted.{listed}
@@ -26,17 +26,18 @@ atMost most x = leb x most
 
 -- at most 64 flags, each 0 or 1
 unfoldable pub flagsFit : List ℕ → Bool
-flagsFit dynamic = pick (leb (length dynamic) table.BODIES) (all (atMost at.DYNAMIC) dynamic) false
+flagsFit dynamic = leb (length dynamic) table.BODIES and all (atMost at.DYNAMIC) dynamic
 
 -- at most 16 kinds, each 0, 1 or 2, with a named body and a ray's numbers for each
 unfoldable pub answersFit : List ℕ → List ℕ → List Float → Bool
 answersFit kinds named rays =
-    pick (leb (length kinds) table.WHEELS)
-    (pick (eqb (length named) (length kinds)) (pick (eqb (length rays) (length kinds * at.RAY)) (all (atMost at.HIT-UP) kinds) false) false)
-    false
+    leb (length kinds) table.WHEELS
+    and eqb (length named) (length kinds)
+    and eqb (length rays) (length kinds * at.RAY)
+    and all (atMost at.HIT-UP) kinds
 
 unfoldable pub listsFit : List ℕ → List ℕ → List ℕ → List Float → Bool
-listsFit dynamic kinds named rays = pick (flagsFit dynamic) (answersFit kinds named rays) false
+listsFit dynamic kinds named rays = flagsFit dynamic and answersFit kinds named rays
 
 unfoldable pub listTests : List Float → List ℕ → List ℕ → List ℕ → List ℕ → List Float → List Test
 listTests t m dynamic kinds named rays =

@@ -152,7 +152,7 @@ fn decode_answers(kinds: &[u32], named: &[u32], rays: &[f32]) -> [RayAnswer; WHE
     requires { ⌜ (length (now kinds) ≤ lent.WHEELS) × (length (now named) ≡ length (now kinds)) × (length (now rays) ≡ length (now kinds) * at.RAY) ⌝ }
     ensures { λ r. ⌜ r ≡ answersIn (now (kinds .entry)) (now (named .entry)) (now (rays .entry)) ⌝ }
 {
-    let mut answers = [RayAnswer::Nothing; 16];
+    let mut answers = [RayAnswer::Nothing; WHEELS];
     let mut i = 0usize;
     while i < kinds.len() {
         answers[i] = answer_in(kinds, named, rays, i);

@@ -4,7 +4,7 @@ use mathlib.Core.List.{List, [], _∷_}
 use mathlib.Core.Path.{_≡_}
 use lib.Ieee.{Float, binary32, neg, ofBits, toBits}
 use Rattle.real.specs.Number.{zero, one, two, half}
-use Rattle.real.specs.Small.{three, four, five, six, seven, eight, ten, twelve, twenty-four, quarter, three-quarters}
+use Rattle.marked.specs.Numbers.{three, four, five, six, seven, eight, ten, twelve, twenty-four, quarter, three-quarters}
 use Rattle.real.specs.Root.{rootOf}
 use Rattle.tyre.specs.declared.WheelTuning.{WheelTuning}
 use Rattle.tyre.specs.Suspension.{clip, suspensionLength, approachOf, suspensionForce}

@@ -1,11 +1,11 @@
 -- Document 01, "A step, in the source's order", over the first n wheels of a table: one pass after another, each wheel by wheel. Definitions only.
 -- `t` is the table, `c` the chassis as it stands; `w` is the wheel that a pass has come to. `tune` gives the settings that count in the step from those that the wheel stores.
 use Prim.Native.Nat.{ℕ}
-use mathlib.Core.Bool.{Bool, true, false}
+use mathlib.Core.Bool.{Bool, true}
 use mathlib.Core.List.{List}
 use lib.ListN.{getD, set, replicate}
 use lib.Ieee.{Float, Format, nan}
-use Rattle.lists.specs.Pick.{pick}
+use Rattle.lists.specs.Pick.{pick, _and_}
 use Rattle.lists.specs.Counted.{iter, every}
 use Rattle.real.specs.Scalar.{within}
 use Rattle.vector.specs.declared.Vector.{Vector}
@@ -122,7 +122,7 @@ spins f tune dt chassis answer n t = eachWheel (spinAt f tune dt chassis answer)
 
 -- ---- refusal 7: the demands and the grip limit of each grounded wheel are no NaN and at most 2^40 in magnitude
 unfoldable pub admits : Format → Settings → Float → Wheel → Bool
-admits f s dt w = pick (within STORED (w .motion .forward)) (pick (within STORED (w .motion .side)) (within STORED (wheelLimit f s dt w)) false) false
+admits f s dt w = within STORED (w .motion .forward) and within STORED (w .motion .side) and within STORED (wheelLimit f s dt w)
 
 unfoldable pub admittedAt : Format → (Settings → Settings) → Float → (ℕ → RayAnswer) → List Float → ℕ → Bool
 admittedAt f tune dt answer t i = pick (groundedAt answer i) (admits f (tune (wheelAt t i .settings)) dt (wheelAt t i)) true

@@ -13,7 +13,7 @@ use lib.Ieee.Scale.{finite}
 use Rattle.real.specs.Number.{power}
 use Rattle.real.specs.Scalar.{within}
 use Rattle.real.specs.Units.{unit, count, minus?}
-use Rattle.real.proofs.Counting.{Counted, finite-of, neg-counted, own-count, power-counted, lt-counts, atMost, le-counts, at-most-plus, at-most-minus, at-most-zero}
+use Rattle.real.proofs.SignedCounts.{Counted, finite-of, neg-counted, own-count, power-counted, lt-counts, atMost, le-counts, at-most-plus, at-most-minus, at-most-zero}
 
 -- a finite value of the format, of at most c units
 pub record Bounded (f : Format) (c : ℕ) (x : Float) : Type 0 where

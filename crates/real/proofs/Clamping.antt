@@ -14,7 +14,7 @@ use lib.Ieee.Scale.{finite}
 use Rattle.real.specs.Number.{zero as nought}
 use Rattle.real.specs.Scalar.{raisedOf, loweredOf, clampOf}
 use Rattle.real.specs.Units.{count, minus?}
-use Rattle.real.proofs.Counting.{Counted, count-of, finite-of, sign-of, neg-counted, own-count, zero-counted, lt-counts, atMost, le-counts, at-most-zero}
+use Rattle.real.proofs.SignedCounts.{Counted, count-of, finite-of, sign-of, neg-counted, own-count, zero-counted, lt-counts, atMost, le-counts, at-most-zero}
 
 -- z has u units, and the sign s unless it is zero
 pub record Signed (f : Format) (z : Float) (s : Bool) (u : ℕ) : Type 0 where

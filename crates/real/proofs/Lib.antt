@@ -1,6 +1,5 @@
 pub mod CorrectlyRounded
 pub mod RootNear
-pub mod Vectors
 pub mod Counts
 pub mod Gap
 pub mod Closest
@@ -9,7 +8,7 @@ pub mod WholeRoot
 pub mod LeadingRoot
 pub mod RootOfUnits
 pub mod Near
-pub mod Counting
+pub mod SignedCounts
 pub mod NotNegative
 pub mod Rounding
 pub mod RootRounds

@@ -18,7 +18,7 @@ use Rattle.real.specs.Number.{zero as nought, one}
 use Rattle.real.specs.Root.{rootOf}
 use Rattle.real.specs.Scalar.{inverseOf, notBelowZero}
 use Rattle.real.specs.Units.{unit, count}
-use Rattle.real.proofs.Counting.{Counted, count-of, own-count, one-counted, lt-counts, at-most-zero}
+use Rattle.real.proofs.SignedCounts.{Counted, count-of, own-count, one-counted, lt-counts, at-most-zero}
 
 -- a NaN, +infinity, a number with the sign +, or a zero
 abbrev pub NotNegative : Float → Type 0

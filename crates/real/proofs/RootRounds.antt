@@ -10,7 +10,7 @@ use lib.Ieee.{Float, Format, hid, fits}
 use lib.Ieee.Positive.{positive}
 use Rattle.real.specs.Root.{rootOf}
 use Rattle.real.specs.Units.{unit, count}
-use Rattle.real.proofs.Counting.{Counted}
+use Rattle.real.proofs.SignedCounts.{Counted}
 use Rattle.real.proofs.Near.{By, by-of-step, by-le-trans, le-by-trans, by-mul, by-of-scaled, by-regroup, Near}
 use Rattle.real.proofs.RootNear.{rootOf-near}
 use Rattle.real.proofs.Rounding.{parts}

@@ -24,7 +24,7 @@ use Rattle.real.specs.Scalar.{inverseOf}
 use Rattle.real.specs.Units.{unit}
 use Rattle.real.proofs.Closest.{WithinHalf, closest-half}
 use Rattle.real.proofs.Near.{by-of-le, by-of-step, by-le-trans, Near, near-mul, near-of-scaled, near-regroup, NearUpTo}
-use Rattle.real.proofs.Counting.{Counted, finite-of, of-fractions, Holds, zero-counted, one-counted, eq-counts, le-counts, at-most-plus}
+use Rattle.real.proofs.SignedCounts.{Counted, finite-of, of-fractions, Holds, zero-counted, one-counted, eq-counts, le-counts, at-most-plus}
 use Rattle.real.proofs.NotNegative.{round-not-negative, finite-of-le}
 
 -- ---- g units are n / c units rounded

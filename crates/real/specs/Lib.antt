@@ -2,4 +2,3 @@ pub mod Number
 pub mod Units
 pub mod Root
 pub mod Scalar
-pub mod Small

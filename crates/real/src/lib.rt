@@ -31,7 +31,7 @@ fn lowered(hi: f32, x: f32) -> f32
     if x > hi { hi } else { x }
 }
 
-// Rust's `x.clamp(lo, hi)`, with no panic: lo is not to be above hi, and neither a NaN.
+// Rust's `x.clamp(lo, hi)` with no panic: x raised to lo, and then lowered to hi, which decides where lo is above it. A NaN stays.
 pub fn clamp(x: f32, lo: f32, hi: f32) -> f32
     ensures { λ r. ⌜ r ≡ clampOf lo hi x ⌝ }
 {

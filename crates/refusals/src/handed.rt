@@ -2,6 +2,7 @@
 use super::ranges;
 use body::Chassis;
 use table::bounds::HANDED;
+use table::layout::WHEELS;
 use vector::Vector;
 use wheel::Controls;
 use wheel::RayAnswer;
@@ -77,7 +78,7 @@ fn is_hit_ok(bodies: u32, time: f32, named: u32) -> bool
 }
 
 // Refusal 6, of each of the first n answers.
-pub fn are_answers_ok(bodies: u32, answers: [RayAnswer; 16], n: usize) -> bool
+pub fn are_answers_ok(bodies: u32, answers: [RayAnswer; WHEELS], n: usize) -> bool
     requires { ⌜ n ≤ at.WHEELS ⌝ }
     ensures { λ r. ⌜ r ≡ answersOk bodies (answerAt answers) n ⌝ }
 {
@@ -94,7 +95,7 @@ pub fn are_answers_ok(bodies: u32, answers: [RayAnswer; 16], n: usize) -> bool
 }
 
 // Refusal 2, of the normals of each of the first n answers.
-pub fn are_all_normals_handed(answers: [RayAnswer; 16], n: usize) -> bool
+pub fn are_all_normals_handed(answers: [RayAnswer; WHEELS], n: usize) -> bool
     requires { ⌜ n ≤ at.WHEELS ⌝ }
     ensures { λ r. ⌜ r ≡ allNormalsHanded (answerAt answers) n ⌝ }
 {

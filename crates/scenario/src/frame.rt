@@ -5,6 +5,7 @@ use stream::layout::DYNAMIC;
 use stream::layout::HIT;
 use stream::layout::HIT_UP;
 use table::layout::BODY;
+use table::layout::WHEELS;
 use wheel::RayAnswer;
 ghost use mathlib.Core.Path.{_≡_};
 ghost use lib.ListN.{length, replicate};
@@ -127,11 +128,11 @@ pub fn decode_flags(words: &[u32], nb: usize, flags: &mut [bool])
 }
 
 // A drive's answers from a word on, and nothing for the wheels after them.
-pub fn decode_answers(words: &[u32], from: usize, na: usize) -> [RayAnswer; 16]
+pub fn decode_answers(words: &[u32], from: usize, na: usize) -> [RayAnswer; WHEELS]
     requires { ⌜ (length (now words) ≡ code.CODE-WORDS) × (from ≤ at.LAST-ANSWERS) × (na ≤ code.ANSWERS) ⌝ }
     ensures { λ r. ⌜ r ≡ paste (replicate code.ANSWERS Nothing) 0 (answersFrom format (now (words .entry)) from na) ⌝ }
 {
-    let mut answers = [RayAnswer::Nothing; 16];
+    let mut answers = [RayAnswer::Nothing; WHEELS];
     let mut a = from;
     let mut i = 0usize;
     while i < na {

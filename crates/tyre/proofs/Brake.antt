@@ -12,7 +12,7 @@ use Rattle.real.specs.Number.{one}
 use Rattle.real.specs.Root.{rootOf}
 use Rattle.real.specs.Scalar.{inverseOf}
 use Rattle.real.specs.Units.{count}
-use Rattle.real.proofs.Counting.{count-of, finite-of, own-count, own-holds}
+use Rattle.real.proofs.SignedCounts.{count-of, finite-of, own-count, own-holds}
 use Rattle.real.proofs.NotNegative.{NotNegative, mul-not-negative, inverse-not-negative, root-not-negative, below-one}
 use Rattle.real.proofs.Rounding.{mul-shrinks}
 use Rattle.real.proofs.Bounds.{bounded-counted}

@@ -9,7 +9,7 @@ use lib.Ieee.{Float, Format, binary32, binary64, low, neg, add, mul, div, lt, le
 use Rattle.real.specs.Number.{zero, one, half}
 use Rattle.real.specs.Root.{rootOf}
 use Rattle.real.specs.Scalar.{within, inverseOf, clampOf, raisedOf, loweredOf}
-use Rattle.real.proofs.Counting.{fraction-counted}
+use Rattle.real.proofs.SignedCounts.{fraction-counted}
 use Rattle.real.proofs.NotNegative.{not-negative-of-le, le-of-not-negative, mul-not-negative}
 use Rattle.real.proofs.Bounds.{bounded-counted, bounded-not-nan, at-least-of-le}
 use Rattle.real.proofs.Clamping.{clamp-le, not-nan-of-clamp}
@@ -18,7 +18,6 @@ use Rattle.tyre.specs.Demand3.{precision, Grips, WithinBrake, Admitted, 
 use Rattle.tyre.proofs.Ranges.{ranges}
 use Rattle.tyre.proofs.GripCircle.{small-of-admitted, grips}
 use Rattle.tyre.proofs.Brake.{skid-fits, skid-not-negative, rescaled-le, brake-signed}
-use Rattle.real.specs.Small.{three, four, five, six, seven, eight, twelve}
 
 -- "If its demand does not pass the slide test, its two impulses are exactly the demand."
 pub not-sliding : (f : Format) (forward side limit : Float) → slides f forward side limit ≡ false
@@ -62,14 +61,3 @@ limit-not-negative f force dt slip p q r a =
     le-of-not-negative (limitOf f force dt slip)
     (mul-not-negative f (mul f force dt) slip (mul-not-negative f force dt (not-negative-of-le force p) (not-negative-of-le dt q)) (not-negative-of-le slip r))
     (bounded-not-nan (small-of-admitted a))
-
--- ---- no claim is empty: marked case 9, and case 11 with a limit of 12 × 0.5 × 1
-pub case-9 : Grips binary32 (2 ^ 20) six four five
-unfolding fits within le neg slides loadOf skidOf rescaledBy rootOf inverseOf add mul div
-case-9 = sliding32 twelve eight five (record { held = tt; bounded = refl }) (record { held = tt; bounded = refl }) (record { admitted = record { held = tt; bounded = refl }; at-least = refl }) refl
-
-pub case-11 : WithinBrake binary32 three three
-unfolding fits within le neg slides loadOf skidOf rescaledBy brakedOf clampOf raisedOf loweredOf limitOf add mul
-case-11 =
-    unpowered binary32 three seven zero (limitOf binary32 twelve half one) (record { admitted = record { held = tt; bounded = refl }; at-least = refl }) tt (record { held = tt; bounded = refl })
-    (limit-not-negative binary32 twelve half one refl refl refl (record { held = tt; bounded = refl }))

@@ -14,7 +14,7 @@ use Rattle.real.specs.Root.{rootOf}
 use Rattle.real.specs.Scalar.{inverseOf}
 use Rattle.real.specs.Units.{unit, count, minus?}
 use Rattle.real.proofs.Near.{Near, le-of-by}
-use Rattle.real.proofs.Counting.{Counted, count-of, finite-of, power-holds, one-counted, fraction-counted}
+use Rattle.real.proofs.SignedCounts.{Counted, count-of, finite-of, power-holds, one-counted, fraction-counted}
 use Rattle.real.proofs.Rounding.{parts, parts-pos, rounded-of-scaled, Rounds, mul-rounds, square-rounds, add-rounds, inverse-rounds}
 use Rattle.real.proofs.RootRounds.{RootRounds, root-rounds}
 use Rattle.real.proofs.Bounds.{Bounded, bounded-counted, within-power, count-lt-of-lt, count-le-of-not-lt}
