@@ -3,7 +3,6 @@
 use body::Body;
 use body::Chassis;
 use drive::Driven;
-use table::layout::BODY;
 use table::layout::SIZE;
 use table::layout::WHEELS;
 use tyre::WheelTuning;

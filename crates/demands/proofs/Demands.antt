@@ -29,7 +29,7 @@ use Rattle.drive.specs.declared.Driven.{Driven}
 use Rattle.drive.specs.Aim.{aimOf, refuseAim, notAimed, aimedBy, aimedTable}
 use Rattle.passes.specs.Passes.{stored}
 use Rattle.passes.specs.Step.{wholeStep}
-use Rattle.drive.specs.Drive.{driveUnder, driveOf, refuseUnder, refuseDrive, notDriven, drivenBy}
+use Rattle.drive.specs.Drive.{driveUnder, driveOf, refuseDrive, notDriven, drivenBy}
 use Rattle.demands.specs.History.{State, Call, SetUp, ReadWheel, answered, accepted, runAll, drivenSince, countAfter, readAfter}
 use Rattle.demands.specs.Same.{Same}
 use Rattle.demands.specs.Impulses.{Step, Accepted, Stepped, Grounded, forwardDemand, sideDemand, gripLimit, forwardImpulse, sideImpulse, brakeOf, slidesAt, poweredAt, Alike}

@@ -3,7 +3,7 @@
 use Prim.Native.Nat.{ℕ, _≤_, _<_}
 use mathlib.Core.Bool.{Bool}
 use mathlib.Core.List.{List}
-use mathlib.Core.Path.{_≡_, refl, ap, _∙_}
+use mathlib.Core.Path.{_≡_, refl, sym, ap, _∙_}
 use lib.ListN.{length}
 use lib.Ieee.{Float, Format}
 use Rattle.body.specs.declared.Body.{Body}
@@ -95,6 +95,13 @@ module _ (f : Format) (tune : Settings → Settings) (r : Frame) (n : ℕ) (l : 
       ∙ ap (λ (x : Directions). demandOf f tune (r .dt) body (r .bodies) (r .dynamic) (r .answer i) grounded x hung) directions-sprung
       ∙ ap (λ (x : Settings). withFriction hung (frictionOf f (tune x) (r .dt) body (isGrounded (r .answer i)) (groundUnder (r .bodies) (r .dynamic) (r .answer i)) grounded (directionsOf f hung) hung))
       (sprung-keeps-settings f own kept (r .answer i) (wheelAt t i))
+
+  -- rule 9 takes rule 7's directions: those of the wheel as the demands and the rescale leave it are the same
+  pub directions-kept : directionsOf f (wheelAt (rescales f n (demandStep f tune r n t .table)) i) ≡ directionsAt (sprung f tune r n t .directions) i
+  unfolding directionsOf
+  directions-kept =
+      ap (directionsOf f) (wheel-rescales f tune n (demandStep f tune r n t .table) (length-demanded f tune r n l t s) l i h ∙ ap (λ (w : Wheel). withFriction w (rescaledOf f (frictionIn w))) wheel-demanded)
+      ∙ sym directions-sprung
 
   -- the impulses that the step leaves are the demands, rescaled
   pub friction-stepped : (up : ℕ) → frictionIn (wheelAt (wholeStep f tune up r n t .table) i) ≡ rescaledOf f (frictionIn (wheelAt (demandStep f tune r n t .table) i))

@@ -1,6 +1,6 @@
 -- Demand 3 speaks of one wheel of an accepted step: its two demands, its grip limit and its two impulses, and two steps that are alike to it. Definitions only.
 use Prim.Native.Nat.{ℕ, _<_}
-use mathlib.Core.Bool.{Bool, true, false}
+use mathlib.Core.Bool.{Bool, true}
 use mathlib.Core.List.{List}
 use mathlib.Core.Path.{_≡_}
 use lib.Dec.{T}

@@ -1,6 +1,6 @@
 -- What an accepted call of a frame has tested, a record for each; in order: aim, by its first tests, by all, and by its answer; that no test of a drive refuses with 0; what a drive is handed, by the
 -- tests of it, by all that come before the step, and by all. Assumes nothing.
-use Prim.Native.Nat.{ℕ, _*_, _<_, _≤_}
+use Prim.Native.Nat.{ℕ}
 use mathlib.Core.Bool.{Bool, true}
 use mathlib.Core.List.{List, _++_}
 use mathlib.Core.Path.{_≡_, refl, sym, _∙_}
@@ -14,7 +14,6 @@ use Rattle.lists.proofs.Picks.{pick-zero}
 use Rattle.lists.proofs.Refusals.{numbered, append-passed, passed-of-append}
 use Rattle.body.specs.declared.Chassis.{Chassis}
 use Rattle.wheel.specs.declared.RayAnswer.{RayAnswer}
-use Rattle.wheel.specs.Ray.{namedOf}
 use Rattle.table.specs.Layout as at
 use Rattle.table.specs.Bounds.{storedWithin}
 use Rattle.passes.specs.Frame.{Frame, Listed}

@@ -16,7 +16,7 @@ use Rattle.table.specs.Bounds.{storedWithin}
 use Rattle.passes.specs.Frame.{Frame}
 use Rattle.wheel.specs.declared.Settings.{Settings}
 use Rattle.wheel.specs.declared.Directions.{Directions}
-use Rattle.passes.specs.Passes.{stored, demandsAdmitted}
+use Rattle.passes.specs.Passes.{demandsAdmitted}
 use Rattle.passes.specs.Step.{work, pushed, spun, demandStep, wholeStep}
 use Rattle.refusals.specs.Shape.{upOf}
 use Rattle.refusals.specs.After.{after, marked}

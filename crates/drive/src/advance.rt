@@ -53,7 +53,13 @@ fn refuse_frame(
 }
 
 // Refusal 2.
-fn refuse_numbers(table: &[f32], dt: f32, bodies: &[f32], answers: [RayAnswer; WHEELS], n: usize) -> u32
+fn refuse_numbers(
+    table: &[f32],
+    dt: f32,
+    bodies: &[f32],
+    answers: [RayAnswer; WHEELS],
+    n: usize,
+) -> u32
     requires { ⌜ (length (now table) ≡ at.SIZE) × (n ≤ at.WHEELS) ⌝ }
     ensures { λ r. ⌜ r ≡ firstFailed (numberTests (now (table .entry)) dt (now (bodies .entry)) (answerAt answers) n) ⌝ }
 {

@@ -12,9 +12,9 @@ use Rattle.lists.proofs.Parts.{length-paste, paste-paste, paste-all, set-is-pas
 use Rattle.table.specs.Layout as table
 use Rattle.drive.specs.declared.Sight.{Sight}
 use Rattle.exports.specs.Layout as at
-use Rattle.drive.specs.Results.{sightList, sightsList}
+use Rattle.drive.specs.Results.{SIGHT, sightList, sightsList}
 
-pub length-sights : (l : List Sight) → length (sightsList l) ≡ length l * at.SIGHT
+pub length-sights : (l : List Sight) → length (sightsList l) ≡ length l * SIGHT
 unfolding sightsList sightList
 length-sights [] = refl
 length-sights (s ∷ l) = let h = length-sights l in omega arith
@@ -40,15 +40,15 @@ unfolding paste sightsList
 sighted-start before l h = record { sized = h; upto = omega arith; done = sym (take-append-drop at.SIGHTS before) }
 
 length-sighted : (now : List Float) (l : List Sight) (i : ℕ) (z : Sight) → length now ≡ at.AIM → i < table.WHEELS
-    → length (paste now (at.SIGHTS + i * at.SIGHT) (sightList (getD l i z))) ≡ length now
+    → length (paste now (at.SIGHTS + i * SIGHT) (sightList (getD l i z))) ≡ length now
 unfolding sightList
-length-sighted now l i z s h = length-paste now (at.SIGHTS + i * at.SIGHT) (sightList (getD l i z)) (omega arith)
+length-sighted now l i z s h = length-paste now (at.SIGHTS + i * SIGHT) (sightList (getD l i z)) (omega arith)
 
 pub sighted-again : (before now now' : List Float) (l : List Sight) (i : ℕ) (z : Sight) → Sighted before l i now → length before ≡ at.AIM → length l ≡ table.WHEELS → i < table.WHEELS
-    → now' ≡ paste now (at.SIGHTS + i * at.SIGHT) (sightList (getD l i z)) → Sighted before l (i + 1) now'
+    → now' ≡ paste now (at.SIGHTS + i * SIGHT) (sightList (getD l i z)) → Sighted before l (i + 1) now'
 sighted-again before now now' l i z s b w h e =
-    let few : length (sightsList (take i l)) ≡ i * at.SIGHT = length-sights (take i l) ∙ ap (λ (n : ℕ). n * at.SIGHT) (length-take-le i l (s .upto)) in
-    let more : paste now (at.SIGHTS + i * at.SIGHT) (sightList (getD l i z)) ≡ paste before at.SIGHTS (sightsList (take (i + 1) l)) =
+    let few : length (sightsList (take i l)) ≡ i * SIGHT = length-sights (take i l) ∙ ap (λ (n : ℕ). n * SIGHT) (length-take-le i l (s .upto)) in
+    let more : paste now (at.SIGHTS + i * SIGHT) (sightList (getD l i z)) ≡ paste before at.SIGHTS (sightsList (take (i + 1) l)) =
     rw (s .done, ← few, sights-more l i z (omega arith)) (paste-paste before at.SIGHTS (sightsList (take i l)) (sightList (getD l i z)) (omega arith)) in
     record { sized = ap length e ∙ length-sighted now l i z (s .sized) h ∙ s .sized; upto = omega arith; done = e ∙ more }
 

@@ -2,6 +2,7 @@
 -- The table, its whole numbers, a chassis, a ground body, settings and controls are laid out as in crate `table`, the results of a read as in crate `vehicle`.
 use Prim.Native.Nat.{ℕ, _+_, _*_}
 use Rattle.table.specs.Layout as table
+use Rattle.drive.specs.Results as drive
 
 -- ---- what a wheel's ray met: the time, the normal and the normal of the upward cast
 abbrev pub TIME : ℕ
@@ -17,15 +18,6 @@ abbrev pub RAY : ℕ
 RAY = UPWARD + 3
 
 -- ---- the results of an aim: the signed speed, and a sight for each wheel, its hard point and its ray
-abbrev pub SIGHT-HARD : ℕ
-SIGHT-HARD = 0
-
-abbrev pub SIGHT-RAY : ℕ
-SIGHT-RAY = SIGHT-HARD + 3
-
-abbrev pub SIGHT : ℕ
-SIGHT = SIGHT-RAY + 3
-
 abbrev pub SPEED : ℕ
 SPEED = 0
 
@@ -33,17 +25,11 @@ abbrev pub SIGHTS : ℕ
 SIGHTS = SPEED + 1
 
 abbrev pub AIM : ℕ
-AIM = SIGHTS + table.WHEELS * SIGHT
+AIM = SIGHTS + table.WHEELS * drive.SIGHT
 
 -- ---- the results of a drive: both velocities, and whether the chassis is to be woken
-abbrev pub LINVEL : ℕ
-LINVEL = 0
-
-abbrev pub ANGVEL : ℕ
-ANGVEL = LINVEL + 3
-
 abbrev pub WAKE : ℕ
-WAKE = ANGVEL + 3
+WAKE = drive.VELOCITIES
 
 abbrev pub DRIVE : ℕ
 DRIVE = WAKE + 1

@@ -1,5 +1,7 @@
 // The flat lists that a host hands to the calls, and those that a call writes: each place is counted from the one before it. A chassis, a
 // ground body, settings and controls are laid out as in crate `table`, the results of a read as in crate `vehicle`.
+use drive::results::SIGHT;
+use drive::results::VELOCITIES;
 use table::layout::WHEELS;
 
 // What a wheel's ray met.
@@ -12,12 +14,6 @@ pub const UPWARD: usize = NORMAL + 3;
 pub const RAY: usize = UPWARD + 3;
 
 // The results of an aim: the signed speed, and a sight for each wheel, its hard point and its ray.
-pub const SIGHT_HARD: usize = 0;
-
-pub const SIGHT_RAY: usize = SIGHT_HARD + 3;
-
-pub const SIGHT: usize = SIGHT_RAY + 3;
-
 pub const SPEED: usize = 0;
 
 pub const SIGHTS: usize = SPEED + 1;
@@ -25,11 +21,7 @@ pub const SIGHTS: usize = SPEED + 1;
 pub const AIM: usize = SIGHTS + WHEELS * SIGHT;
 
 // The results of a drive.
-pub const LINVEL: usize = 0;
-
-pub const ANGVEL: usize = LINVEL + 3;
-
-pub const WAKE: usize = ANGVEL + 3;
+pub const WAKE: usize = VELOCITIES;
 
 pub const DRIVE: usize = WAKE + 1;
 

@@ -1,10 +1,10 @@
 // The results of a call, written over a lent list where the call is accepted.
-use super::layout::SIGHT;
 use super::layout::SIGHTS;
 use super::layout::SPEED;
 use drive::Aimed;
 use drive::Driven;
 use drive::Sight;
+use drive::results::SIGHT;
 use table::layout::WHEELS;
 use vehicle::Reading;
 ghost use mathlib.Core.Path.{_≡_};
@@ -15,7 +15,7 @@ ghost use Rattle.table.specs.Layout as lent;
 ghost use Rattle.vehicle.specs.Read.{READING, readingList};
 ghost use Rattle.exports.specs.Layout as at;
 ghost use Rattle.exports.specs.Ends.{writtenOver};
-ghost use Rattle.drive.specs.Results.{sightList, sightsList, aimedList};
+ghost use Rattle.drive.specs.Results.{SIGHT, sightList, sightsList, aimedList};
 ghost use Rattle.exports.specs.Results.{flagNumber, drivenList};
 
 // The results of a read.
@@ -53,7 +53,7 @@ pub fn put_driven(results: &mut [f32], d: Driven)
 // The sight of wheel i, at its place.
 fn put_sight(results: &mut [f32], i: usize, s: Sight)
     requires { ⌜ (length (now results) ≡ at.AIM) × (i < lent.WHEELS) ⌝ }
-    ensures { λ _. ⌜ now (results .exit) ≡ paste (now (results .entry)) (at.SIGHTS + i * at.SIGHT) (sightList s) ⌝ }
+    ensures { λ _. ⌜ now (results .exit) ≡ paste (now (results .entry)) (at.SIGHTS + i * SIGHT) (sightList s) ⌝ }
 {
     let a = SIGHTS + i * SIGHT;
     let e = a + SIGHT;

@@ -10,7 +10,7 @@ use Rattle.lists.specs.Counted.{iter, every}
 use Rattle.real.specs.Scalar.{within}
 use Rattle.vector.specs.declared.Vector.{Vector}
 use Rattle.vector.specs.declared.Pose.{Pose}
-use Rattle.vector.specs.Arithmetic.{zeroV, rotateV, ith}
+use Rattle.vector.specs.Arithmetic.{zeroV}
 use Rattle.body.specs.declared.Body.{Body}
 use Rattle.body.specs.declared.Chassis.{Chassis}
 use Rattle.tyre.specs.Grip.{rescaledOf}
@@ -24,8 +24,8 @@ use Rattle.wheel.specs.Contact.{directionsOf}
 use Rattle.wheel.specs.Step.{suspendedOf, applySuspension, wheelLimit, frictionOf, applyFriction, updateRotation}
 use Rattle.table.specs.Layout as at
 use Rattle.table.specs.Bounds.{STORED}
-use Rattle.table.specs.Rows.{wheelAt, putWheel, chassisAt, putChassis}
-use Rattle.passes.specs.Frame.{Frame, groundedAt, groundedWheels, groundUnder}
+use Rattle.table.specs.Rows.{wheelAt, putWheel}
+use Rattle.passes.specs.Frame.{Frame, groundedAt, groundUnder}
 
 -- the settings that count are the stored ones
 abbrev pub stored : Settings → Settings

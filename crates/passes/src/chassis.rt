@@ -7,7 +7,7 @@ use wheel::RayAnswer;
 use wheel::Settings;
 use wheel::Wheel;
 ghost use mathlib.Core.Path.{_≡_};
-ghost use Prim.Native.Nat.{ℕ, _<_, _≤_};
+ghost use Prim.Native.Nat.{_<_, _≤_};
 ghost use lib.ListN.{length};
 ghost use lib.Ieee.{binary32};
 ghost use mathlib.Core.Bool.{true};

@@ -16,7 +16,7 @@ ghost use Rattle.passes.specs.Frame.{frame, Grounds, Listed};
 ghost use Rattle.passes.specs.Passes.{stored, changed, transformAt, transforms, casts, suspensions, directionsAt, demandOf, demands, spins};
 
 // Rule 1.
-pub fn transform_wheel(table: &mut [f32], i: usize, pose: Pose)
+fn transform_wheel(table: &mut [f32], i: usize, pose: Pose)
     requires { ⌜ (length (now table) ≡ at.SIZE) × (i < at.WHEELS) ⌝ }
     ensures { λ _. ⌜ now (table .exit) ≡ changed (transformAt binary32 pose) i (now (table .entry)) ⌝ }
 {
@@ -36,7 +36,7 @@ pub fn transform_pass(table: &mut [f32], n: usize, pose: Pose)
 }
 
 // Rules 3 to 5, with the wheel's answer. The settings that count in a step are the stored ones, here and below.
-pub fn cast_wheel(table: &mut [f32], i: usize, chassis: Body, answer: RayAnswer)
+fn cast_wheel(table: &mut [f32], i: usize, chassis: Body, answer: RayAnswer)
     requires { ⌜ (length (now table) ≡ at.SIZE) × (i < at.WHEELS) ⌝ }
     ensures { λ _. ⌜ now (table .exit) ≡ putWheel (now (table .entry)) i (rayCast binary32 (wheelAt (now (table .entry)) i .settings) chassis answer (wheelAt (now (table .entry)) i)) ⌝ }
 {
@@ -60,12 +60,16 @@ pub fn cast_pass(table: &mut [f32], n: usize, chassis: Body, answers: [RayAnswer
 }
 
 // Rule 6, the force.
-pub fn suspend_wheel(table: &mut [f32], i: usize, invmass: f32, contact: bool)
+fn suspend_wheel(table: &mut [f32], i: usize, invmass: f32, contact: bool)
     requires { ⌜ (length (now table) ≡ at.SIZE) × (i < at.WHEELS) ⌝ }
     ensures { λ _. ⌜ now (table .exit) ≡ putWheel (now (table .entry)) i (suspendedOf binary32 (wheelAt (now (table .entry)) i .settings) invmass contact (wheelAt (now (table .entry)) i)) ⌝ }
 {
     let w = table::rows::get_wheel(&table[..], i);
-    table::rows::put_force(table, i, wheel::step::wheel_force(w.settings, invmass, contact, w));
+    table::rows::put_force(
+        table,
+        i,
+        wheel::step::wheel_force(w.settings, invmass, contact, w),
+    );
 }
 
 pub fn suspension_pass(table: &mut [f32], n: usize, invmass: f32, answers: [RayAnswer; WHEELS])
@@ -81,7 +85,7 @@ pub fn suspension_pass(table: &mut [f32], n: usize, invmass: f32, answers: [RayA
 }
 
 // Rule 7, and rule 8 before the rescale, with the wheel's directions and its answer. `grounded` is the number of grounded wheels.
-pub fn friction_wheel(
+fn friction_wheel(
     table: &mut [f32],
     i: usize,
     d: Directions,
@@ -135,7 +139,7 @@ pub fn friction_pass(
 }
 
 // Rule 10.
-pub fn spin_wheel(table: &mut [f32], i: usize, dt: f32, chassis: Body, contact: bool)
+fn spin_wheel(table: &mut [f32], i: usize, dt: f32, chassis: Body, contact: bool)
     requires { ⌜ (length (now table) ≡ at.SIZE) × (i < at.WHEELS) ⌝ }
     ensures { λ _. ⌜ now (table .exit) ≡ putWheel (now (table .entry)) i (updateRotation binary32 (wheelAt (now (table .entry)) i .settings) dt contact chassis (wheelAt (now (table .entry)) i)) ⌝ }
 {

@@ -2,3 +2,4 @@
 pub mod Putting
 pub mod Told
 pub mod Fronts
+pub mod Tied

@@ -33,7 +33,7 @@ pub fn body_count_from(words: &[u32]) -> u32
 }
 
 // Number k of the bodies as they are lent.
-pub fn body_number_from(words: &[u32], k: usize) -> f32
+fn body_number_from(words: &[u32], k: usize) -> f32
     requires { ⌜ (length (now words) ≡ code.CODE-WORDS) × (k < code.BODIES * table.BODY) ⌝ }
     ensures { λ r. ⌜ r ≡ bodyNumberFrom format (now (words .entry)) k ⌝ }
 {
@@ -41,7 +41,7 @@ pub fn body_number_from(words: &[u32], k: usize) -> f32
 }
 
 // Whether body i is dynamic.
-pub fn flag_from(words: &[u32], i: usize) -> bool
+fn flag_from(words: &[u32], i: usize) -> bool
     requires { ⌜ (length (now words) ≡ code.CODE-WORDS) × (i < code.BODIES) ⌝ }
     ensures { λ r. ⌜ r ≡ flagFrom (now (words .entry)) i ⌝ }
 {

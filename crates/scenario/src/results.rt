@@ -1,12 +1,10 @@
 // The results of a call, written as words over a lent list.
 use super::bits;
-use vector::Vector;
 ghost use mathlib.Core.Path.{_≡_};
 ghost use mathlib.Core.List.{[], _∷_};
 ghost use Prim.Native.Nat.{_+_, _<_, _≤_};
 ghost use lib.ListN.{length};
 ghost use Rattle.lists.specs.Part.{paste};
-ghost use Rattle.table.specs.Rows.{vectorList};
 ghost use Rattle.scenario.specs.Format.{format};
 ghost use Rattle.scenario.specs.Results.{wordsOf, flagWord};
 
@@ -37,13 +35,6 @@ pub fn put_float(words: &mut [u32], a: usize, x: f32)
     ensures { λ _. ⌜ now (words .exit) ≡ paste (now (words .entry)) a (wordsOf format (x ∷ [])) ⌝ }
 {
     put_numbers(words, a, &[x]);
-}
-
-pub fn put_vector(words: &mut [u32], a: usize, v: Vector)
-    requires { ⌜ a + 2 < length (now words) ⌝ }
-    ensures { λ _. ⌜ now (words .exit) ≡ paste (now (words .entry)) a (wordsOf format (vectorList v)) ⌝ }
-{
-    put_numbers(words, a, &[v.x, v.y, v.z]);
 }
 
 fn flag_word(flag: bool) -> u32

@@ -3,13 +3,11 @@
 use Prim.Native.Nat.{ℕ, zero, suc, _+_, _≤_, _<_}
 use mathlib.Core.List.{List, map}
 use mathlib.Core.Path.{_≡_, refl, ap, _∙_}
-use native.Mathlib.Decide.{decLt}
 use native.Mathlib.Omega.{arith}
-use lib.ListN.{length, take, drop, getD, length-set, length-map, length-replicate, List·getD-append, List·getD-map}
-use lib.Seq.{getD-set-same, getD-set-other, getD-take, length-take-le}
+use lib.ListN.{length, take, drop, getD, length-map, List·getD-append, List·getD-map}
+use lib.Seq.{getD-take, length-take-le}
 use lib.Ieee.{Float, Format, lt}
 use Rattle.lists.specs.Counted.{iter}
-use Rattle.tyre.specs.declared.Friction.{Friction}
 use Rattle.wheel.specs.declared.Wheel.{Wheel}
 use Rattle.tyre.specs.Grip.{airborne, rescaledBy, rescaledOf}
 use Rattle.wheel.specs.Parts.{frictionIn, withFriction}

@@ -2,15 +2,12 @@
 -- other records in its rows. One record's rescale is `rescaledOf`, as in the pass over the table. Definitions only.
 use Prim.Native.Nat.{ℕ}
 use mathlib.Core.List.{List, map, _++_}
-use lib.ListN.{take, drop, getD, set, replicate}
+use lib.ListN.{take, drop, getD}
 use lib.Ieee.{Float, Format, nan}
-use Rattle.lists.specs.Counted.{iter}
 use Rattle.tyre.specs.declared.Friction.{Friction}
 use Rattle.wheel.specs.declared.Wheel.{Wheel}
 use Rattle.tyre.specs.Grip.{airborne, rescaledOf}
 use Rattle.wheel.specs.Parts.{frictionIn, withFriction}
-use Rattle.table.specs.Layout as at
-use Rattle.table.specs.Rows.{wheelAt}
 use Rattle.passes.specs.Passes.{eachWheel, eachGives}
 
 -- what is read past the end of a list of records

@@ -2,19 +2,17 @@
 use table::layout::WHEELS;
 use tyre::Friction;
 ghost use mathlib.Core.Path.{_≡_};
-ghost use Prim.Native.Nat.{_<_, _≤_};
+ghost use Prim.Native.Nat.{_≤_};
 ghost use mathlib.Core.List.{map};
 ghost use lib.ListN.{length};
 ghost use lib.Ieee.{binary32};
 ghost use Rattle.tyre.specs.Grip.{rescaledOf};
-ghost use Rattle.wheel.specs.Parts.{frictionIn};
 ghost use Rattle.table.specs.Layout as at;
-ghost use Rattle.table.specs.Rows.{wheelOf, wheelAt};
 ghost use Rattle.passes.specs.Passes.{rescales};
 ghost use Rattle.slides.specs.Slides.{gathered, rescaledFirst, scattered};
 
 // Each record after the rescale.
-pub fn rescale(slides: &mut [Friction])
+fn rescale(slides: &mut [Friction])
     ensures { λ _. ⌜ now (slides .exit) ≡ map (rescaledOf binary32) (now (slides .entry)) ⌝ }
 {
     let mut i = 0;

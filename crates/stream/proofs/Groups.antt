@@ -1,5 +1,5 @@
 -- Laws on the groups of one number, in the steps of the loop that reads them. In order: what the last group reaches; which group may be the last; what the groups so far are worth; where the loop stands; one more group, and each way the number ends. Assumes nothing.
-use Prim.Native.Nat.{ℕ, zero, suc, _+_, _-_, _*_, _%_, _^_, _≤_, _<_}
+use Prim.Native.Nat.{ℕ, zero, suc, _+_, _*_, _%_, _^_, _≤_, _<_}
 use mathlib.Core.Bool.{Bool, true, false}
 use mathlib.Core.List.{List, [], _∷_}
 use mathlib.Core.Path.{_≡_, refl, sym, ap, _∙_}

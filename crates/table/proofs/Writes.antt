@@ -7,7 +7,7 @@ use native.Mathlib.Omega.{arith}
 use lib.ListN.{length, getD, set, take, drop}
 use lib.Ieee.{Float, nan}
 use Rattle.lists.specs.Counted.{listed}
-use Rattle.lists.specs.Part.{part, paste}
+use Rattle.lists.specs.Part.{part}
 use Rattle.lists.proofs.Parts.{part-is, paste-is}
 use Rattle.tyre.specs.declared.Approach.{Approach}
 use Rattle.tyre.specs.declared.Friction.{Friction}
@@ -19,7 +19,7 @@ use Rattle.wheel.specs.declared.Motion.{Motion}
 use Rattle.wheel.specs.declared.Wheel.{Wheel}
 use Rattle.wheel.specs.Parts.{withInfo, withPlace, withSettings, withControls, withApproach, withMotion, withForce, withFriction, withRotation}
 use Rattle.table.specs.Layout as at
-use Rattle.table.specs.Rows.{vectorAt, rotationAt, infoAt, infoList, placeAt, placeList, tuningAt, tuningList, settingsAt, settingsList, controlsAt, controlsList, approachAt, approachList, motionAt, motionList, wheelOf, rowOf, rowStart, wheelAt, putWheel}
+use Rattle.table.specs.Rows.{vectorAt, rotationAt, infoAt, infoList, placeAt, placeList, tuningAt, settingsAt, settingsList, controlsAt, controlsList, approachAt, approachList, motionAt, motionList, wheelOf, rowOf, rowStart, wheelAt, putWheel}
 use Rattle.table.proofs.Laws.{length-row, wheel-of-row}
 
 -- ---- a list is the list of its elements

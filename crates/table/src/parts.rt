@@ -18,7 +18,7 @@ ghost use Prim.Native.Nat.{_+_, _<_, _≤_};
 ghost use lib.ListN.{length};
 ghost use Rattle.wheel.specs.Parts.{withInfo, withPlace, withSettings, withControls, withApproach, withMotion, withForce, withFriction, withRotation, frictionIn};
 ghost use Rattle.table.specs.Layout as at;
-ghost use Rattle.table.specs.Rows.{vectorAt, rotationAt, inertiaAt, infoAt, infoList, placeAt, placeList, tuningAt, tuningList, settingsAt, settingsList, controlsAt, controlsList, approachAt, approachList, motionAt, motionList, wheelOf, rowOf};
+ghost use Rattle.table.specs.Rows.{vectorAt, rotationAt, inertiaAt, infoAt, infoList, placeAt, placeList, tuningAt, settingsAt, settingsList, controlsAt, controlsList, approachAt, approachList, motionAt, motionList, wheelOf, rowOf};
 
 pub fn vector_at(l: &[f32], a: usize) -> Vector
     requires { ⌜ a + 2 < length (now l) ⌝ }

@@ -1,19 +1,17 @@
 -- Demand 3 of one grounded wheel, over the definitions of rules 6 to 8, in either format: each sentence stands above its theorem. What it says of whole steps is lifted to accepted drives above this crate. Assumes nothing.
-use mathlib.Core.Path.{_≡_, refl}
-use Prim.Native.Nat.{ℕ, _-_, _^_}
+use mathlib.Core.Path.{_≡_}
+use Prim.Native.Nat.{_-_, _^_}
 use native.Mathlib.Nat.{le-trans}
 use mathlib.Core.Bool.{true, false}
 use lib.Dec.{T}
 use lib.Pow.{pow-pos}
-use lib.Ieee.{Float, Format, binary32, binary64, low, neg, add, mul, div, lt, le, fits}
-use Rattle.real.specs.Number.{zero, one, half}
-use Rattle.real.specs.Root.{rootOf}
-use Rattle.real.specs.Scalar.{within, inverseOf, clampOf, raisedOf, loweredOf}
+use lib.Ieee.{Float, Format, binary32, binary64, low, neg, mul, lt, le, fits}
+use Rattle.real.specs.Number.{zero}
 use Rattle.real.proofs.SignedCounts.{fraction-counted}
 use Rattle.real.proofs.NotNegative.{not-negative-of-le, le-of-not-negative, mul-not-negative}
 use Rattle.real.proofs.Bounds.{bounded-counted, bounded-not-nan, at-least-of-le}
 use Rattle.real.proofs.Clamping.{clamp-le, not-nan-of-clamp}
-use Rattle.tyre.specs.Grip.{loadOf, slides, skidOf, rescaledBy, brakedOf, limitOf}
+use Rattle.tyre.specs.Grip.{slides, skidOf, rescaledBy, brakedOf, limitOf}
 use Rattle.tyre.specs.Demand3.{precision, Grips, WithinBrake, Admitted, GripLimit, Brake}
 use Rattle.tyre.proofs.Ranges.{ranges}
 use Rattle.tyre.proofs.GripCircle.{small-of-admitted, grips}

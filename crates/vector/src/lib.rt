@@ -155,14 +155,14 @@ pub fn transform_point(p: Pose, v: Vector) -> Vector
 }
 
 // The symmetric three by three array of an inverse inertia, row by row.
-pub fn rows(i: Inertia) -> [[f32; 3]; 3]
+fn rows(i: Inertia) -> [[f32; 3]; 3]
     ensures { λ r. ⌜ r ≡ rowsOf i ⌝ }
 {
     [[i.xx, i.xy, i.xz], [i.xy, i.yy, i.yz], [i.xz, i.yz, i.zz]]
 }
 
 // The dot of one row and a vector.
-pub fn row_dot(row: [f32; 3], v: Vector) -> f32
+fn row_dot(row: [f32; 3], v: Vector) -> f32
     ensures { λ r. ⌜ r ≡ rowDot binary32 row v ⌝ }
 {
     dot(
@@ -176,7 +176,7 @@ pub fn row_dot(row: [f32; 3], v: Vector) -> f32
 }
 
 // The product of an array of rows and a vector: three row dots.
-pub fn rows_dot(m: [[f32; 3]; 3], v: Vector) -> Vector
+fn rows_dot(m: [[f32; 3]; 3], v: Vector) -> Vector
     ensures { λ r. ⌜ r ≡ rowsDot binary32 m v ⌝ }
 {
     Vector {

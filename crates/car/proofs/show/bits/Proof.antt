@@ -1,5 +1,5 @@
 -- `car::show::bits` is safe: a number that equals itself is no NaN. Assumes nothing.
-use mathlib.Core.Bool.{true, false, not, true≢false}
+use mathlib.Core.Bool.{false, not, true≢false}
 use mathlib.Core.Path.{_≡_, sym, _∙_}
 use borrow.Author.Needs.{needs}
 use lib.Dec.{T}

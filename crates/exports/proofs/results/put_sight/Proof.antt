@@ -4,7 +4,7 @@ use Prim.Native.Nat.{_+_, _*_}
 use mathlib.Core.Path.{refl, _∙_}
 use Rattle.lists.proofs.Parts.{paste-is}
 use Rattle.exports.specs.Layout as at
-use Rattle.drive.specs.Results.{sightList}
+use Rattle.drive.specs.Results.{SIGHT, sightList}
 use Rattle.exports.proofs.results.put_sight.Statement.{statement}
 use Rattle.exports.proofs.results.put_sight.Tie as tie
 
@@ -14,7 +14,7 @@ returns c =
     let put = c .before .before in
     let numbers = put .before .before .before in
     let a = numbers .before .before .args in
-    paste-is (a .results .now) _ (sightList (a .s)) (at.SIGHTS + a .i * at.SIGHT) at.SIGHT (put .copy .ensures ∙ numbers .sight-numbers .ensures) refl
+    paste-is (a .results .now) _ (sightList (a .s)) (at.SIGHTS + a .i * SIGHT) SIGHT (put .copy .ensures ∙ numbers .sight-numbers .ensures) refl
 
 pub put-sight-spec : {M : Type 1} → statement M
 put-sight-spec =

@@ -1,6 +1,5 @@
 -- `perform::results::put_sight` meets its contract: `put_numbers` puts them all. Assumes nothing.
 use borrow.Author.Needs.{needs}
-use Rattle.drive.specs.Results.{sightList}
 use Rattle.perform.proofs.results.put_sight.Statement.{statement}
 use Rattle.perform.proofs.results.put_sight.Tie as tie
 

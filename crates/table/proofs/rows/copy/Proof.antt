@@ -1,7 +1,7 @@
 -- `table::rows::copy` meets its contract: the invariant is that the first i numbers are those of src. Assumes nothing.
 use borrow.Author.Needs.{needs}
 use native.Mathlib.Omega.{arith}
-use Prim.Native.Nat.{ℕ, _≤_, _-_}
+use Prim.Native.Nat.{_≤_, _-_}
 use mathlib.Core.Path.{_≡_, _∙_}
 use mathlib.Core.List.{_++_}
 use lib.ListN.{length, take, drop, length-set}

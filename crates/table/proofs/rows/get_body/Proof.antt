@@ -1,5 +1,5 @@
 -- `table::rows::get_body` meets its contract: the lent part is the body. Assumes nothing.
-use mathlib.Core.Path.{_∙_, ap, refl}
+use mathlib.Core.Path.{_∙_, ap}
 use Prim.Native.Nat.{_*_}
 use Rattle.lists.proofs.Parts.{part-is}
 use Rattle.table.specs.Layout as at
