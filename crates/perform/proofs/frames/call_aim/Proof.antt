@@ -21,8 +21,8 @@ decoded c = c .before .before .before .before
 
 abbrev start : tie.After-aim → tie.Start
 start c =
-    let at-place = c .before .before .before .before in
-    decoded at-place .before
+    let at-chassis = decoded c .before .before .before .before in
+    at-chassis .before
 
 aimed : (c : tie.After-aim) → let a = start c .args in after (c .aim .result) (c .aim .last .0) (c .aim .last .1 .0) ≡ aimOf format (a .table .now) (a .whole .now) (chassisFrom format (a .words .now))
 aimed c = rw (decoded c .chassis-from .ensures) at (c .aim .ensures)
