@@ -14,6 +14,10 @@ use vehicle_controller::ffi::{kind, len};
 const HANDED: f32 = 1_048_576.0; // 2^20
 const STORED: f32 = 1_099_511_627_776.0; // 2^40
 
+/// Where the radius stands among the settings, and the settings in a row: the connection point is the first of them.
+const RADIUS: usize = 10;
+const SETTINGS_IN_ROW: usize = 19;
+
 /// The bad numbers for a bound: NaN, the infinities and the next float beyond the bound, on both sides.
 fn bad(bound: f32) -> [f32; 5] {
     let beyond = f32::from_bits(bound.to_bits() + 1);
@@ -246,7 +250,7 @@ fn out_of_range(swept: &mut Swept) {
     }
     for radius in [0.0, -0.0] {
         let mut list = settings();
-        list[10] = radius;
+        list[RADIUS] = radius;
         swept.expect("radius 0", &new, &Call::Add(list), 10);
     }
     let controls_with = |place: usize, value: f32| {
@@ -278,7 +282,7 @@ fn out_of_range(swept: &mut Swept) {
     );
     swept.expect(
         "a stored radius",
-        &with(&aimed, |lent| lent.table[len::CHASSIS + 30] = 0.0),
+        &with(&aimed, |lent| lent.table[len::CHASSIS + SETTINGS_IN_ROW + RADIUS] = 0.0),
         &Call::Drive(drive()),
         10,
     );
@@ -315,7 +319,7 @@ fn the_rest(swept: &mut Swept) {
     let stretched = [Call::SetUp(1, 0), Call::Add(stiff), Call::Aim(light)];
     swept.expect("a wild force", &new.clone().after(&stretched), &ground, 8);
     swept.expect("a stiff wheel", &new.clone().after(&one), &ground, 0);
-    let far = with(&new, |lent| lent.table[len::CHASSIS + 19] = STORED);
+    let far = with(&new, |lent| lent.table[len::CHASSIS + SETTINGS_IN_ROW] = STORED);
     let mut moved = chassis();
     moved[0] = HANDED;
     swept.expect("a hard point too far", &far, &Call::Aim(moved), 8);
