@@ -23,6 +23,7 @@ use Rattle.vector.specs.Arithmetic.{dotV}
 use Rattle.body.specs.declared.Body.{Body}
 use Rattle.body.specs.declared.Chassis.{Chassis}
 use Rattle.tyre.specs.declared.Friction.{Friction}
+use Rattle.tyre.specs.declared.WheelTuning.{WheelTuning}
 use Rattle.tyre.specs.Suspension.{suspensionForce}
 use Rattle.tyre.specs.Demand.{sideResponse, rollingResponse, rollingOf}
 use Rattle.tyre.specs.Grip.{skidOf, withSkid, airborne, rescaledBy, rescaledOf, brakedOf, limitOf}
@@ -61,7 +62,7 @@ unfolding rollingOf brakedOf
 rolled-fits f dt engine brake uncut b u =
     cond-fits f (ne engine zero) (mul f engine dt) (clampOf (neg brake) brake uncut) (mul-fits f engine dt) (clamp-fits f (neg brake) brake uncut (neg-fits f brake b) b u)
 
-module _ (f : Format) (own : Settings) (dt : Float) (body : Body) (ground : Ground) (grounded : ℕ) (axis forward : Vector) (w : Wheel) where
+module _ (f : Format) (own : WheelTuning) (dt : Float) (body : Body) (ground : Ground) (grounded : ℕ) (axis forward : Vector) (w : Wheel) where
   -- rule 7's rolling demand before the clamp
   abbrev uncutDemand : Float
   uncutDemand = rollingResponse f (dotV f forward (relativeVelocity f body ground (w .info .point))) (denominatorsOf f body ground (w .info .point) forward) grounded
@@ -83,7 +84,7 @@ module _ (f : Format) (own : Settings) (dt : Float) (body : Body) (ground : Grou
   limit-fits = mul-fits f _ _
 
 -- rule 6: the force is not below 0
-force-not-negative : (f : Format) (own : Settings) (kept : Body) (answer : RayAnswer) (w : Wheel) → le zero (sprungWheel f own kept answer w .motion .force) ≡ true
+force-not-negative : (f : Format) (own : WheelTuning) (kept : Body) (answer : RayAnswer) (w : Wheel) → le zero (sprungWheel f own kept answer w .motion .force) ≡ true
 unfolding suspendedOf wheelForce contactForce suspensionForce
 force-not-negative f own kept answer w = either (isGrounded answer) _
   where
@@ -93,7 +94,7 @@ force-not-negative f own kept answer w = either (isGrounded answer) _
 
 -- ---- wheel i of an accepted step
 abbrev sprungAt : Format → Step → ℕ → Wheel
-sprungAt f d i = sprungWheel f (storedWheel d i .settings) (chassisAt (d .table) .body) (d .frame .answer i) (storedWheel d i)
+sprungAt f d i = sprungWheel f (storedWheel d i .settings .tuning) (chassisAt (d .table) .body) (d .frame .answer i) (storedWheel d i)
 
 abbrev bodyIn : Format → Step → Body
 bodyIn f d = sprung f stored (d .frame) (d .n) (d .table) .chassis .body
@@ -120,11 +121,11 @@ module _ (f : Format) (d : Step) (accepted : Accepted f d) where
     pub friction-of-demand : frictionIn (drivenWheel f d i) ≡ rescaledOf f (frictionIn (demandingWheel f d i))
     friction-of-demand = rw driven-table (friction-stepped f stored (d .frame) (d .n) room (d .table) (tests .early .frame .shape .sized) i counted (upOf (d .whole)))
 
-    pub friction-of-wheel : frictionIn (drivenWheel f d i) ≡ impulsesOf f (storedWheel d i .settings) (chassisAt (d .table) .body) (bodyIn f d) (d .frame .dt) (groundIn d i) (groundedIn d) (d .frame .answer i) (storedWheel d i)
+    pub friction-of-wheel : frictionIn (drivenWheel f d i) ≡ impulsesOf f (storedWheel d i .settings .tuning) (chassisAt (d .table) .body) (bodyIn f d) (d .frame .dt) (groundIn d i) (groundedIn d) (d .frame .answer i) (storedWheel d i)
     friction-of-wheel = rw driven-table (friction-alone f stored (d .frame) (d .n) room (d .table) (tests .early .frame .shape .sized) i counted (upOf (d .whole)))
 
     -- the wheel at its demands
-    demand-of : demandingWheel f d i ≡ withFriction (sprungAt f d i) (frictionOf f (storedWheel d i .settings) (d .frame .dt) (bodyIn f d) (groundedAt (d .frame .answer) i) (groundIn d i) (groundedIn d) (directionsOf f (sprungAt f d i)) (sprungAt f d i))
+    demand-of : demandingWheel f d i ≡ withFriction (sprungAt f d i) (frictionOf f (storedWheel d i .settings .tuning) (d .frame .dt) (bodyIn f d) (groundedAt (d .frame .answer) i) (groundIn d i) (groundedIn d) (directionsOf f (sprungAt f d i)) (sprungAt f d i))
     unfolding groundedAt
     demand-of = wheel-demanded f stored (d .frame) (d .n) room (d .table) (tests .early .frame .shape .sized) i counted
 
@@ -147,8 +148,8 @@ brake-of-stepped {f} {d} {i} s =
     }
 
 -- ---- a grounded wheel
-skid-of-demand : (f : Format) (dt forward side : Float) (w x : Wheel) → x ≡ withFriction w (withSkid f forward side (wheelLimit f (w .settings) dt w))
-    → x .motion .skid ≡ skidOf f (x .motion .forward) (x .motion .side) (wheelLimit f (x .settings) dt x)
+skid-of-demand : (f : Format) (dt forward side : Float) (w x : Wheel) → x ≡ withFriction w (withSkid f forward side (wheelLimit f (w .settings .tuning) dt w))
+    → x .motion .skid ≡ skidOf f (x .motion .forward) (x .motion .side) (wheelLimit f (x .settings .tuning) dt x)
 unfolding withSkid wheelLimit
 skid-of-demand f dt forward side w x e = rw e
 
@@ -167,14 +168,14 @@ module _ (f : Format) (d : Step) (i : ℕ) (g : Grounded f d i) where
   own-settings = sprung-keeps-settings f _ _ _ (storedWheel d i)
 
   demand-grounded : demandingWheel f d i
-      ≡ withFriction hung (withSkid f (rollingDemand f (d .frame .dt) (bodyIn f d) (groundIn d i) (groundedIn d) forward hung) (step.sideDemand f (hung .settings) (bodyIn f d) (groundIn d i) axis hung) (wheelLimit f (hung .settings) (d .frame .dt) hung))
+      ≡ withFriction hung (withSkid f (rollingDemand f (d .frame .dt) (bodyIn f d) (groundIn d i) (groundedIn d) forward hung) (step.sideDemand f (hung .settings .tuning) (bodyIn f d) (groundIn d i) axis hung) (wheelLimit f (hung .settings .tuning) (d .frame .dt) hung))
   unfolding frictionOf
   demand-grounded =
       (rw (g .contact) at (demand-of f d (g .stepped .accepted) i (g .stepped .counted)))
-      ∙ ap (λ (x : Settings). withFriction hung (withSkid f (rollingDemand f (d .frame .dt) (bodyIn f d) (groundIn d i) (groundedIn d) forward hung) (step.sideDemand f x (bodyIn f d) (groundIn d i) axis hung) (wheelLimit f x (d .frame .dt) hung)))
+      ∙ ap (λ (x : Settings). withFriction hung (withSkid f (rollingDemand f (d .frame .dt) (bodyIn f d) (groundIn d i) (groundedIn d) forward hung) (step.sideDemand f (x .tuning) (bodyIn f d) (groundIn d i) axis hung) (wheelLimit f (x .tuning) (d .frame .dt) hung)))
       (sym own-settings)
 
-  pub limit-is : gripLimit f d i ≡ wheelLimit f (hung .settings) (d .frame .dt) hung
+  pub limit-is : gripLimit f d i ≡ wheelLimit f (hung .settings .tuning) (d .frame .dt) hung
   unfolding wheelLimit
   limit-is = rw demand-grounded
 
@@ -182,7 +183,7 @@ module _ (f : Format) (d : Step) (i : ℕ) (g : Grounded f d i) where
   unfolding withSkid
   forward-is = ap (λ (x : Wheel). x .motion .forward) demand-grounded
 
-  side-is : sideDemand f d i ≡ step.sideDemand f (hung .settings) (bodyIn f d) (groundIn d i) axis hung
+  side-is : sideDemand f d i ≡ step.sideDemand f (hung .settings .tuning) (bodyIn f d) (groundIn d i) axis hung
   unfolding withSkid
   side-is = ap (λ (x : Wheel). x .motion .side) demand-grounded
 
@@ -199,7 +200,7 @@ module _ (f : Format) (d : Step) (i : ℕ) (g : Grounded f d i) where
   side-rescaled = ap (λ (x : Friction). x .side) (friction-of-demand f d (g .stepped .accepted) i (g .stepped .counted)) ∙ ap (λ (k : Float). rescaledBy f k (sideDemand f d i)) skid-is
 
   -- refusal 7 let its demands and its limit through
-  admitted-seven : admits f (demandingWheel f d i .settings) (d .frame .dt) (demandingWheel f d i) ≡ true
+  admitted-seven : admits f (demandingWheel f d i .settings .tuning) (d .frame .dt) (demandingWheel f d i) ≡ true
   unfolding demandsAdmitted admittedAt pick
   admitted-seven =
       let u = g .stepped .counted in
@@ -210,19 +211,19 @@ module _ (f : Format) (d : Step) (i : ℕ) (g : Grounded f d i) where
   forward-admitted =
       let b = brake-of-stepped (g .stepped) .admitted .held in
       record {
-        held = rw forward-is (rolling-fits f (hung .settings) (d .frame .dt) (bodyIn f d) (groundIn d i) (groundedIn d) axis forward hung (rw (sprung-keeps-controls f _ _ _ (storedWheel d i)) b));
+        held = rw forward-is (rolling-fits f (hung .settings .tuning) (d .frame .dt) (bodyIn f d) (groundIn d i) (groundedIn d) axis forward hung (rw (sprung-keeps-controls f _ _ _ (storedWheel d i)) b));
         bounded = pick-true _ _ admitted-seven .0;
       }
 
   pub side-admitted : Admitted f (sideDemand f d i)
   unfolding admits
   side-admitted =
-      record { held = rw side-is (side-fits f (hung .settings) (d .frame .dt) (bodyIn f d) (groundIn d i) (groundedIn d) axis forward hung); bounded = pick-true _ _ (pick-true _ _ admitted-seven .1) .0 }
+      record { held = rw side-is (side-fits f (hung .settings .tuning) (d .frame .dt) (bodyIn f d) (groundIn d i) (groundedIn d) axis forward hung); bounded = pick-true _ _ (pick-true _ _ admitted-seven .1) .0 }
 
   pub limit-admitted : Admitted f (gripLimit f d i)
   unfolding admits
   limit-admitted =
-      record { held = limit-fits f (demandingWheel f d i .settings) (d .frame .dt) (bodyIn f d) (groundIn d i) (groundedIn d) axis forward (demandingWheel f d i); bounded = pick-true _ _ (pick-true _ _ admitted-seven .1) .1 }
+      record { held = limit-fits f (demandingWheel f d i .settings .tuning) (d .frame .dt) (bodyIn f d) (groundIn d i) (groundedIn d) axis forward (demandingWheel f d i); bounded = pick-true _ _ (pick-true _ _ admitted-seven .1) .1 }
 
   -- the limit is not negative
   pub limit-at-least : le zero (gripLimit f d i) ≡ true
@@ -244,14 +245,14 @@ module _ (f : Format) (d : Step) (i : ℕ) (s : Stepped f d i) (unpowered : powe
   grounded-within-brake contact =
       let g : Grounded f d i = record { stepped = s; contact = contact } in
       let w = sprungAt f d i in
-      let uncut = uncutDemand f (w .settings) (d .frame .dt) (bodyIn f d) (groundIn d i) (groundedIn d) (directionsOf f w .axis) (directionsOf f w .forward) w in
+      let uncut = uncutDemand f (w .settings .tuning) (d .frame .dt) (bodyIn f d) (groundIn d i) (groundedIn d) (directionsOf f w .axis) (directionsOf f w .forward) w in
       let braked : forwardDemand f d i ≡ brakedOf (brakeOf d i) uncut =
       forward-is f d i g
       ∙ ap (λ (c : Controls). rollingOf f (d .frame .dt) (c .engine) (c .brake) uncut) (sprung-keeps-controls f _ _ _ (storedWheel d i))
       ∙ rolled-unpowered f (d .frame .dt) (storedWheel d i .controls .engine) (brakeOf d i) uncut unpowered in
       let within =
       unpowered-within f (brakeOf d i) uncut (sideDemand f d i) (gripLimit f d i) (brake-of-stepped s)
-      (uncut-fits f (w .settings) (d .frame .dt) (bodyIn f d) (groundIn d i) (groundedIn d) (directionsOf f w .axis) (directionsOf f w .forward) w) (subst (Admitted f) braked (forward-admitted f d i g)) (limit-at-least f d i g) in
+      (uncut-fits f (w .settings .tuning) (d .frame .dt) (bodyIn f d) (groundIn d i) (groundedIn d) (directionsOf f w .axis) (directionsOf f w .forward) w) (subst (Admitted f) braked (forward-admitted f d i g)) (limit-at-least f d i g) in
       subst (WithinBrake f (brakeOf d i)) (sym (forward-rescaled f d i g))
       (subst (λ (x : Float). WithinBrake f (brakeOf d i) (rescaledBy f (skidOf f x (sideDemand f d i) (gripLimit f d i)) x)) (sym braked) within)
 
@@ -288,5 +289,5 @@ friction-alike {f} {d} {e} {i} p q u v a =
     let sprung : bodyIn f d ≡ bodyIn f e = ap (λ (c : Chassis). c .body) (a .after-springs) in
     let grounded : groundedIn d ≡ groundedIn e = a .grounded-wheels in
     friction-of-wheel f d p i u
-    ∙ impulses-alone f (ap (λ (w : Wheel). w .settings) (a .own-row)) kept sprung (a .time-step) (ground-alike a) grounded (a .own-hit) (a .own-row)
+    ∙ impulses-alone f (ap (λ (w : Wheel). w .settings .tuning) (a .own-row)) kept sprung (a .time-step) (ground-alike a) grounded (a .own-hit) (a .own-row)
     ∙ sym (friction-of-wheel f e q i v)

@@ -1,4 +1,4 @@
--- Wheel i through the passes of a step under given settings, over a table of the right size. In order: what a cast, a suspension and a spin keep of one wheel; after the springs, its directions, after the demands, at the end;
+-- Wheel i through the passes of a step under the tuning that counts, over a table of the right size. In order: what a cast, a suspension and a spin keep of one wheel; after the springs, its directions, after the demands, at the end;
 -- what its two impulses come to. Assumes nothing.
 use Prim.Native.Nat.{ℕ, _≤_, _<_}
 use mathlib.Core.Bool.{Bool}
@@ -8,6 +8,7 @@ use lib.ListN.{length}
 use lib.Ieee.{Float, Format}
 use Rattle.body.specs.declared.Body.{Body}
 use Rattle.tyre.specs.declared.Friction.{Friction}
+use Rattle.tyre.specs.declared.WheelTuning.{WheelTuning}
 use Rattle.tyre.specs.Grip.{rescaledOf}
 use Rattle.wheel.specs.declared.Settings.{Settings}
 use Rattle.wheel.specs.declared.Wheel.{Wheel}
@@ -29,39 +30,39 @@ use Rattle.passes.proofs.Gives.{gives-at}
 use Rattle.demands.proofs.Sizes.{length-cast, length-sprung, length-demanded, length-rescaled}
 
 -- the wheel once its ray answer is in and its force is worked out
-abbrev pub sprungWheel : Format → Settings → Body → RayAnswer → Wheel → Wheel
-sprungWheel f s kept answer w = suspendedOf f s (kept .invmass) (isGrounded answer) (rayCast f s kept answer w)
+abbrev pub sprungWheel : Format → WheelTuning → Body → RayAnswer → Wheel → Wheel
+sprungWheel f tuning kept answer w = suspendedOf f tuning (kept .invmass) (isGrounded answer) (rayCast f tuning kept answer w)
 
 -- ---- one wheel
-cast-keeps-controls : (f : Format) (s : Settings) (kept : Body) (answer : RayAnswer) (w : Wheel) → rayCast f s kept answer w .controls ≡ w .controls
+cast-keeps-controls : (f : Format) (tuning : WheelTuning) (kept : Body) (answer : RayAnswer) (w : Wheel) → rayCast f tuning kept answer w .controls ≡ w .controls
 unfolding rayCast hitOf missOf
-cast-keeps-controls f s kept Nothing w = refl
-cast-keeps-controls f s kept (Hit time normal named) w = refl
-cast-keeps-controls f s kept (HitUp time normal upward named) w = refl
+cast-keeps-controls f tuning kept Nothing w = refl
+cast-keeps-controls f tuning kept (Hit time normal named) w = refl
+cast-keeps-controls f tuning kept (HitUp time normal upward named) w = refl
 
-cast-keeps-settings : (f : Format) (s : Settings) (kept : Body) (answer : RayAnswer) (w : Wheel) → rayCast f s kept answer w .settings ≡ w .settings
+cast-keeps-settings : (f : Format) (tuning : WheelTuning) (kept : Body) (answer : RayAnswer) (w : Wheel) → rayCast f tuning kept answer w .settings ≡ w .settings
 unfolding rayCast hitOf missOf
-cast-keeps-settings f s kept Nothing w = refl
-cast-keeps-settings f s kept (Hit time normal named) w = refl
-cast-keeps-settings f s kept (HitUp time normal upward named) w = refl
+cast-keeps-settings f tuning kept Nothing w = refl
+cast-keeps-settings f tuning kept (Hit time normal named) w = refl
+cast-keeps-settings f tuning kept (HitUp time normal upward named) w = refl
 
-pub sprung-keeps-controls : (f : Format) (s : Settings) (kept : Body) (answer : RayAnswer) (w : Wheel) → sprungWheel f s kept answer w .controls ≡ w .controls
+pub sprung-keeps-controls : (f : Format) (tuning : WheelTuning) (kept : Body) (answer : RayAnswer) (w : Wheel) → sprungWheel f tuning kept answer w .controls ≡ w .controls
 unfolding suspendedOf
-sprung-keeps-controls f s kept answer w = cast-keeps-controls f s kept answer w
+sprung-keeps-controls f tuning kept answer w = cast-keeps-controls f tuning kept answer w
 
-pub sprung-keeps-settings : (f : Format) (s : Settings) (kept : Body) (answer : RayAnswer) (w : Wheel) → sprungWheel f s kept answer w .settings ≡ w .settings
+pub sprung-keeps-settings : (f : Format) (tuning : WheelTuning) (kept : Body) (answer : RayAnswer) (w : Wheel) → sprungWheel f tuning kept answer w .settings ≡ w .settings
 unfolding suspendedOf
-sprung-keeps-settings f s kept answer w = cast-keeps-settings f s kept answer w
+sprung-keeps-settings f tuning kept answer w = cast-keeps-settings f tuning kept answer w
 
-spun-keeps-friction : (f : Format) (s : Settings) (dt : Float) (contact : Bool) (chassis : Body) (w : Wheel) → frictionIn (updateRotation f s dt contact chassis w) ≡ frictionIn w
+spun-keeps-friction : (f : Format) (dt : Float) (contact : Bool) (chassis : Body) (w : Wheel) → frictionIn (updateRotation f dt contact chassis w) ≡ frictionIn w
 unfolding updateRotation spunBy
-spun-keeps-friction f s dt contact chassis w = refl
+spun-keeps-friction f dt contact chassis w = refl
 
 -- ---- wheel i of a step
-module _ (f : Format) (tune : Settings → Settings) (r : Frame) (n : ℕ) (l : n ≤ at.WHEELS) (t : List Float) (s : length t ≡ at.SIZE) (i : ℕ) (h : i < n) where
-  -- the settings that count for it, the chassis as it was kept, and the wheel after the springs
-  abbrev own : Settings
-  own = tune (wheelAt t i .settings)
+module _ (f : Format) (tune : WheelTuning → WheelTuning) (r : Frame) (n : ℕ) (l : n ≤ at.WHEELS) (t : List Float) (s : length t ≡ at.SIZE) (i : ℕ) (h : i < n) where
+  -- the tuning that counts for it, the chassis as it was kept, and the wheel after the springs
+  abbrev own : WheelTuning
+  own = tune (wheelAt t i .settings .tuning)
 
   abbrev kept : Body
   kept = chassisAt t .body
@@ -72,9 +73,9 @@ module _ (f : Format) (tune : Settings → Settings) (r : Frame) (n : ℕ) (l : 
   pub wheel-sprung : wheelAt (sprung f tune r n t .table) i ≡ hung
   unfolding sprung groundedAt
   wheel-sprung =
-      wheel-suspensions f tune n (casts f tune kept (r .answer) n t) (length-cast f tune r n l t s kept) l i h (kept .invmass) (r .answer)
-      ∙ ap (λ (w : Wheel). suspendedOf f (tune (w .settings)) (kept .invmass) (isGrounded (r .answer i)) w) (wheel-casts f tune n t s l i h kept (r .answer))
-      ∙ ap (λ (x : Settings). suspendedOf f (tune x) (kept .invmass) (isGrounded (r .answer i)) (rayCast f own kept (r .answer i) (wheelAt t i))) (cast-keeps-settings f own kept (r .answer i) (wheelAt t i))
+      wheel-suspensions f n (casts f tune kept (r .answer) n t) (length-cast f tune r n l t s kept) l i h tune (kept .invmass) (r .answer)
+      ∙ ap (λ (w : Wheel). suspendedOf f (tune (w .settings .tuning)) (kept .invmass) (isGrounded (r .answer i)) w) (wheel-casts f n t s l i h tune kept (r .answer))
+      ∙ ap (λ (x : Settings). suspendedOf f (tune (x .tuning)) (kept .invmass) (isGrounded (r .answer i)) (rayCast f own kept (r .answer i) (wheelAt t i))) (cast-keeps-settings f own kept (r .answer i) (wheelAt t i))
 
   directions-sprung : directionsAt (sprung f tune r n t .directions) i ≡ directionsOf f hung
   unfolding sprung directionsIn
@@ -90,17 +91,17 @@ module _ (f : Format) (tune : Settings → Settings) (r : Frame) (n : ℕ) (l : 
       let body = sprung f tune r n t .chassis .body in
       let grounded = groundedWheels (r .answer) n in
       let d = directionsAt (sprung f tune r n t .directions) in
-      wheel-demands f tune n (sprung f tune r n t .table) (length-sprung f tune r n l t s) l i h r body grounded d
+      wheel-demands f n (sprung f tune r n t .table) (length-sprung f tune r n l t s) l i h tune r body grounded d
       ∙ ap (demandAt f tune r body grounded d i) wheel-sprung
       ∙ ap (λ (x : Directions). demandOf f tune (r .dt) body (r .bodies) (r .dynamic) (r .answer i) grounded x hung) directions-sprung
-      ∙ ap (λ (x : Settings). withFriction hung (frictionOf f (tune x) (r .dt) body (isGrounded (r .answer i)) (groundUnder (r .bodies) (r .dynamic) (r .answer i)) grounded (directionsOf f hung) hung))
+      ∙ ap (λ (x : Settings). withFriction hung (frictionOf f (tune (x .tuning)) (r .dt) body (isGrounded (r .answer i)) (groundUnder (r .bodies) (r .dynamic) (r .answer i)) grounded (directionsOf f hung) hung))
       (sprung-keeps-settings f own kept (r .answer i) (wheelAt t i))
 
   -- rule 9 takes rule 7's directions: those of the wheel as the demands and the rescale leave it are the same
   pub directions-kept : directionsOf f (wheelAt (rescales f n (demandStep f tune r n t .table)) i) ≡ directionsAt (sprung f tune r n t .directions) i
   unfolding directionsOf
   directions-kept =
-      ap (directionsOf f) (wheel-rescales f tune n (demandStep f tune r n t .table) (length-demanded f tune r n l t s) l i h ∙ ap (λ (w : Wheel). withFriction w (rescaledOf f (frictionIn w))) wheel-demanded)
+      ap (directionsOf f) (wheel-rescales f n (demandStep f tune r n t .table) (length-demanded f tune r n l t s) l i h ∙ ap (λ (w : Wheel). withFriction w (rescaledOf f (frictionIn w))) wheel-demanded)
       ∙ sym directions-sprung
 
   -- the impulses that the step leaves are the demands, rescaled
@@ -108,9 +109,9 @@ module _ (f : Format) (tune : Settings → Settings) (r : Frame) (n : ℕ) (l : 
   unfolding wholeStep spun pushed
   friction-stepped up =
       let after = rescales f n (demandStep f tune r n t .table) in
-      ap frictionIn (wheel-stays _ _ i ∙ wheel-spins f tune n after (length-rescaled f tune r n l t s) l i h (r .dt) _ (r .answer))
-      ∙ spun-keeps-friction f _ (r .dt) _ _ _
-      ∙ ap frictionIn (wheel-rescales f tune n (demandStep f tune r n t .table) (length-demanded f tune r n l t s) l i h)
+      ap frictionIn (wheel-stays _ _ i ∙ wheel-spins f n after (length-rescaled f tune r n l t s) l i h (r .dt) _ (r .answer))
+      ∙ spun-keeps-friction f (r .dt) _ _ _
+      ∙ ap frictionIn (wheel-rescales f n (demandStep f tune r n t .table) (length-demanded f tune r n l t s) l i h)
 
   -- so they are those of one wheel alone
   pub friction-alone : (up : ℕ) → frictionIn (wheelAt (wholeStep f tune up r n t .table) i)

@@ -5,7 +5,7 @@ use mathlib.Core.Path.{_≡_}
 use lib.ListN.{length}
 use lib.Ieee.{Float, Format}
 use Rattle.body.specs.declared.Chassis.{Chassis}
-use Rattle.wheel.specs.declared.Settings.{Settings}
+use Rattle.tyre.specs.declared.WheelTuning.{WheelTuning}
 use Rattle.table.specs.Layout as at
 use Rattle.table.specs.Rows.{putChassis}
 use Rattle.table.proofs.Laws.{length-keep}
@@ -19,7 +19,7 @@ pub length-aimed : (f : Format) (c : Chassis) (n : ℕ) (t : List Float) → len
 unfolding aimedTable transforms
 length-aimed f c n t s l = length-each _ n (putChassis t c) (length-keep t c s) l
 
-module _ (f : Format) (tune : Settings → Settings) (r : Frame) (n : ℕ) (l : n ≤ at.WHEELS) (t : List Float) (s : length t ≡ at.SIZE) where
+module _ (f : Format) (tune : WheelTuning → WheelTuning) (r : Frame) (n : ℕ) (l : n ≤ at.WHEELS) (t : List Float) (s : length t ≡ at.SIZE) where
   pub length-cast : (body : _) → length (casts f tune body (r .answer) n t) ≡ at.SIZE
   unfolding casts
   length-cast body = length-each _ n t s l
@@ -36,6 +36,6 @@ module _ (f : Format) (tune : Settings → Settings) (r : Frame) (n : ℕ) (l : 
   unfolding rescales
   length-rescaled = length-each _ n _ length-demanded l
 
-pub length-whole-step : (f : Format) (tune : Settings → Settings) (t : List Float) (up : ℕ) (r : Frame) (n : ℕ) → length t ≡ at.SIZE → n ≤ at.WHEELS → length (wholeStep f tune up r n t .table) ≡ at.SIZE
+pub length-whole-step : (f : Format) (tune : WheelTuning → WheelTuning) (t : List Float) (up : ℕ) (r : Frame) (n : ℕ) → length t ≡ at.SIZE → n ≤ at.WHEELS → length (wholeStep f tune up r n t .table) ≡ at.SIZE
 unfolding wholeStep spun pushed spins
 length-whole-step f tune t up r n s l = length-keep _ _ (length-each _ n _ (length-rescaled f tune r n l t s) l)

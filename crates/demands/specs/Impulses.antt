@@ -60,7 +60,7 @@ abbrev pub sideDemand : Format → Step → ℕ → Float
 sideDemand f d i = demandingWheel f d i .motion .side
 
 abbrev pub gripLimit : Format → Step → ℕ → Float
-gripLimit f d i = wheelLimit f (demandingWheel f d i .settings) (d .frame .dt) (demandingWheel f d i)
+gripLimit f d i = wheelLimit f (demandingWheel f d i .settings .tuning) (d .frame .dt) (demandingWheel f d i)
 
 abbrev pub forwardImpulse : Format → Step → ℕ → Float
 forwardImpulse f d i = drivenWheel f d i .motion .forward

@@ -14,7 +14,7 @@ use Rattle.body.specs.declared.Chassis.{Chassis}
 use Rattle.table.specs.Layout as at
 use Rattle.table.specs.Bounds.{storedWithin}
 use Rattle.passes.specs.Frame.{Frame}
-use Rattle.wheel.specs.declared.Settings.{Settings}
+use Rattle.tyre.specs.declared.WheelTuning.{WheelTuning}
 use Rattle.wheel.specs.declared.Directions.{Directions}
 use Rattle.passes.specs.Passes.{demandsAdmitted}
 use Rattle.passes.specs.Step.{work, pushed, spun, demandStep, wholeStep}
@@ -27,7 +27,7 @@ use Rattle.drive.specs.Tried.{Tried, tried, tryStep}
 use Rattle.drive.proofs.Accepted.{early-numbered}
 
 -- the step: `demanded` and c after the demands, `last` and c' at its end, t' the table as it is left
-module _ (f : Format) (tune : Settings → Settings) (t t' demanded : List Float) (up : ℕ) (r : Frame) (n : ℕ) (c : Chassis) (d : List Directions) (admitted : Bool) where
+module _ (f : Format) (tune : WheelTuning → WheelTuning) (t t' demanded : List Float) (up : ℕ) (r : Frame) (n : ℕ) (c : Chassis) (d : List Directions) (admitted : Bool) where
   pub tried-7 : (reply : Driven) → work demanded c d ≡ demandStep f tune r n t
       → admitted ≡ demandsAdmitted f tune (r .dt) (r .answer) n demanded → not admitted ≡ true
       → reply ≡ notDriven 7 → t' ≡ t → tried reply t' ≡ tryStep f tune t up r n
@@ -36,13 +36,13 @@ module _ (f : Format) (tune : Settings → Settings) (t t' demanded : List Float
 
   module _ (last : List Float) (c' : Chassis) (within : Bool) where
     whole-is : work demanded c d ≡ demandStep f tune r n t
-        → work last c' d ≡ spun f tune (r .dt) (r .answer) n (pushed f up n (work demanded c d)) → wholeStep f tune up r n t ≡ work last c' d
+        → work last c' d ≡ spun f (r .dt) (r .answer) n (pushed f up n (work demanded c d)) → wholeStep f tune up r n t ≡ work last c' d
     unfolding wholeStep
     whole-is w x = rw (← w, ← x)
 
     pub tried-8 : (reply : Driven) → work demanded c d ≡ demandStep f tune r n t
         → admitted ≡ demandsAdmitted f tune (r .dt) (r .answer) n demanded → not admitted ≡ false
-        → work last c' d ≡ spun f tune (r .dt) (r .answer) n (pushed f up n (work demanded c d))
+        → work last c' d ≡ spun f (r .dt) (r .answer) n (pushed f up n (work demanded c d))
         → within ≡ storedWithin last n → not within ≡ true
         → reply ≡ notDriven 8 → t' ≡ t → tried reply t' ≡ tryStep f tune t up r n
     unfolding tryStep stepTests firstFailed pick
@@ -50,7 +50,7 @@ module _ (f : Format) (tune : Settings → Settings) (t t' demanded : List Float
 
     pub tried-done : (kept : List Float) (wake : Bool) → work demanded c d ≡ demandStep f tune r n t
         → admitted ≡ demandsAdmitted f tune (r .dt) (r .answer) n demanded → not admitted ≡ false
-        → work last c' d ≡ spun f tune (r .dt) (r .answer) n (pushed f up n (work demanded c d))
+        → work last c' d ≡ spun f (r .dt) (r .answer) n (pushed f up n (work demanded c d))
         → within ≡ storedWithin last n → not within ≡ false
         → wake ≡ wakes kept n → kept ≡ t
         → tried (record { number = 0; linvel = c' .body .linvel; angvel = c' .body .angvel; wake = wake }) last ≡ tryStep f tune t up r n
@@ -58,7 +58,7 @@ module _ (f : Format) (tune : Settings → Settings) (t t' demanded : List Float
     tried-done kept wake w p q x s u v k = rw (v, k, whole-is w x, ← w, ← p, not-false admitted q, ← s, not-false within u)
 
 -- ---- what a tried step says of the drive, whose reply has the number of the first failed test of the step
-module _ (f : Format) (tune : Settings → Settings) (t t' : List Float) (m : List ℕ) (r : Frame) (n : ℕ) (reply : Driven) (h : tried reply t' ≡ tryStep f tune t (upOf m) r n) where
+module _ (f : Format) (tune : WheelTuning → WheelTuning) (t t' : List Float) (m : List ℕ) (r : Frame) (n : ℕ) (reply : Driven) (h : tried reply t' ≡ tryStep f tune t (upOf m) r n) where
   number-of-tried : reply .number ≡ firstFailed (stepTests f tune t (upOf m) r n)
   unfolding tryStep drivenBy notDriven pick
   number-of-tried = ap (λ (s : Tried). s .reply .number) h ∙ go (firstFailed (stepTests f tune t (upOf m) r n))
@@ -93,7 +93,7 @@ module _ (f : Format) (tune : Settings → Settings) (t t' : List Float) (m : Li
         ∙ settled-refused (reply .number) _ notDriven _ _ t m number-of-drive e refl
 
 -- refused before the step is tried
-pub drive-refused : (f : Format) (tune : Settings → Settings) (t : List Float) (m : List ℕ) (r : Frame) (n number : ℕ) (reply : Driven)
+pub drive-refused : (f : Format) (tune : WheelTuning → WheelTuning) (t : List Float) (m : List ℕ) (r : Frame) (n number : ℕ) (reply : Driven)
     → number ≡ firstFailed (earlyTests f t m r n) → (number ≡ 0 → ⊥) → reply ≡ notDriven number → after reply t m ≡ driveUnder f tune t m r n
 unfolding driveUnder refuseUnder
 drive-refused f tune t m r n number reply p q e = settled-refused number _ notDriven reply _ t m (append-refused-by _ _ number p q) q e

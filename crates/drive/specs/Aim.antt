@@ -36,7 +36,7 @@ unfoldable pub noSight : Sight
 noSight = record { hard = zeroV; ray = zeroV }
 
 unfoldable pub sightOf : Format → Wheel → Sight
-sightOf f w = record { hard = w .info .hard; ray = rayOf f (w .settings) w }
+sightOf f w = record { hard = w .info .hard; ray = rayOf f w }
 
 unfoldable pub sightsOf : Format → ℕ → List Float → List Sight
 sightsOf f n t = eachGives (sightOf f) noSight n t

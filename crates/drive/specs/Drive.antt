@@ -1,5 +1,5 @@
 -- Document 01, "What a vehicle keeps". Drive: takes dt, at most 64 ground bodies and one ray answer per wheel, works on the kept chassis and stores its new velocities; mark driven. Definitions only.
--- The tests that come first read what is stored; then a step is made under given settings, with its own tests. Today's drive is that with the stored ones.
+-- The tests that come first read what is stored; then a step is made under the tuning that counts for each wheel, with its own tests. A drive is that under the stored ones.
 use Prim.Native.Nat.{ℕ, _*_}
 use mathlib.Core.Bool.{Bool, not, false}
 use mathlib.Core.List.{List, [], _∷_, _++_}
@@ -11,7 +11,7 @@ use Rattle.lists.specs.Refusal.{Test, _or_, firstFailed}
 use Rattle.real.specs.Number.{zero}
 use Rattle.real.specs.Scalar.{within}
 use Rattle.vector.specs.Arithmetic.{zeroV}
-use Rattle.wheel.specs.declared.Settings.{Settings}
+use Rattle.tyre.specs.declared.WheelTuning.{WheelTuning}
 use Rattle.wheel.specs.declared.RayAnswer.{RayAnswer}
 use Rattle.table.specs.Layout as at
 use Rattle.table.specs.Rows.{wheelAt, chassisAt}
@@ -58,14 +58,14 @@ earlyTests f t m r n =
     ++ numberTests t (r .dt) (r .bodies) (r .answer) n
     ++ rangeTests f t (r .dt) (r .bodies) (length (r .dynamic)) n
 
--- the tests of the step itself, under given settings
-unfoldable pub stepTests : Format → (Settings → Settings) → List Float → ℕ → Frame → ℕ → List Test
+-- the tests of the step itself, under the tuning that counts
+unfoldable pub stepTests : Format → (WheelTuning → WheelTuning) → List Float → ℕ → Frame → ℕ → List Test
 stepTests f tune t up r n =
     demandsAdmitted f tune (r .dt) (r .answer) n (demandStep f tune r n t .table) or 7
     ∷ storedWithin (wholeStep f tune up r n t .table) n or 8
     ∷ []
 
-unfoldable pub refuseUnder : Format → (Settings → Settings) → List Float → List ℕ → Frame → ℕ → ℕ
+unfoldable pub refuseUnder : Format → (WheelTuning → WheelTuning) → List Float → List ℕ → Frame → ℕ → ℕ
 refuseUnder f tune t m r n = firstFailed (earlyTests f t m r n ++ stepTests f tune t (upOf m) r n)
 
 unfoldable pub refuseDrive : Format → List Float → List ℕ → Frame → ℕ → ℕ
@@ -84,7 +84,7 @@ notDriven number = record { number = number; linvel = zeroV; angvel = zeroV; wak
 unfoldable pub drivenBy : List Float → ℕ → Work → Driven
 drivenBy t n s = record { number = 0; linvel = s .chassis .body .linvel; angvel = s .chassis .body .angvel; wake = wakes t n }
 
-unfoldable pub driveUnder : Format → (Settings → Settings) → List Float → List ℕ → Frame → ℕ → After Driven
+unfoldable pub driveUnder : Format → (WheelTuning → WheelTuning) → List Float → List ℕ → Frame → ℕ → After Driven
 driveUnder f tune t m r n =
     let s = wholeStep f tune (upOf m) r n t in
     settled (refuseUnder f tune t m r n) notDriven (after (drivenBy t n s) (s .table) (marked m at.DRIVEN)) t m

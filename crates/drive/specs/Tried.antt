@@ -5,7 +5,7 @@ use lib.Dec.{eqb}
 use lib.Ieee.{Float, Format}
 use Rattle.lists.specs.Pick.{pick}
 use Rattle.lists.specs.Refusal.{firstFailed}
-use Rattle.wheel.specs.declared.Settings.{Settings}
+use Rattle.tyre.specs.declared.WheelTuning.{WheelTuning}
 use Rattle.passes.specs.Frame.{Frame}
 use Rattle.passes.specs.Step.{wholeStep}
 use Rattle.drive.specs.declared.Driven.{Driven}
@@ -19,7 +19,7 @@ abbrev pub tried : Driven → List Float → Tried
 tried d t = record { reply = d; table = t }
 
 -- the step with its own refusals, 7 and 8
-unfoldable pub tryStep : Format → (Settings → Settings) → List Float → ℕ → Frame → ℕ → Tried
+unfoldable pub tryStep : Format → (WheelTuning → WheelTuning) → List Float → ℕ → Frame → ℕ → Tried
 tryStep f tune t up r n =
     let number = firstFailed (stepTests f tune t up r n) in
     pick (eqb number 0) (tried (drivenBy t n (wholeStep f tune up r n t)) (wholeStep f tune up r n t .table)) (tried (notDriven number) t)

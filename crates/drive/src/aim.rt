@@ -46,7 +46,7 @@ fn sight_of(w: Wheel) -> Sight
     let hard = w.info.hard;
     Sight {
         hard,
-        ray: wheel::ray::ray_of(w.settings, w),
+        ray: wheel::ray::ray_of(w),
     }
 }
 

@@ -62,7 +62,7 @@ pub fn finish_step(
     directions: [Directions; WHEELS],
 ) -> Chassis
     requires { ⌜ (length (now table) ≡ at.SIZE) × (n ≤ at.WHEELS) ⌝ }
-    ensures { λ r. ⌜ work (now (table .exit)) r directions ≡ spun binary32 stored dt (answerAt answers) n (pushed binary32 up n (work (now (table .entry)) c directions)) ⌝ }
+    ensures { λ r. ⌜ work (now (table .exit)) r directions ≡ spun binary32 dt (answerAt answers) n (pushed binary32 up n (work (now (table .entry)) c directions)) ⌝ }
 {
     slides::rescale_pass(table, n);
     let p = c.pose;

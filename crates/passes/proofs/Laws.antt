@@ -9,22 +9,21 @@ use lib.ListN.{length}
 use lib.Ieee.{Float, Format}
 use Rattle.lists.specs.Counted.{iter}
 use Rattle.lists.proofs.Turns.{iter-keeps, Turning, turning-start, turning-again, turning-done}
-use Rattle.vector.specs.declared.Pose.{Pose}
 use Rattle.body.specs.declared.Body.{Body}
 use Rattle.body.specs.declared.Chassis.{Chassis}
 use Rattle.wheel.specs.declared.Wheel.{Wheel}
 use Rattle.tyre.specs.Grip.{rescaledOf}
-use Rattle.wheel.specs.declared.Settings.{Settings}
+use Rattle.tyre.specs.declared.WheelTuning.{WheelTuning}
 use Rattle.wheel.specs.declared.Directions.{Directions}
 use Rattle.wheel.specs.declared.RayAnswer.{RayAnswer}
 use Rattle.wheel.specs.Parts.{withFriction, frictionIn}
-use Rattle.wheel.specs.Ray.{updateWheelTransform, rayCast}
+use Rattle.wheel.specs.Ray.{rayCast}
 use Rattle.wheel.specs.Step.{suspendedOf, updateRotation}
 use Rattle.table.specs.Layout as at
 use Rattle.table.specs.Rows.{wheelAt, putWheel, chassisAt}
 use Rattle.table.proofs.Laws.{length-put, wheel-put, wheel-other, chassis-stays}
 use Rattle.passes.specs.Frame.{Frame, groundedAt}
-use Rattle.passes.specs.Passes.{changed, eachWheel, moved, eachMoves, transformAt, transforms, castAt, casts, suspendAt, suspensions, demandAt, demands, rescaleAt, rescales, spinAt, spins}
+use Rattle.passes.specs.Passes.{changed, eachWheel, moved, eachMoves, castAt, casts, suspendAt, suspensions, demandAt, demands, rescaleAt, rescales, spinAt, spins}
 
 -- ---- a loop that moves the chassis by each wheel that it reads
 module _ (h : ℕ → Wheel → Chassis → Chassis) (n : ℕ) (t : List Float) (start : Chassis) where
@@ -125,27 +124,24 @@ module _ (g : ℕ → Wheel → Wheel) where
     wheel-past i h = wheel-outside n 0 i t s (omega arith) (λ m a b e. omega arith)
 
 -- ---- each pass at a wheel i of the first n
-module _ (f : Format) (tune : Settings → Settings) (n : ℕ) (t : List Float) (s : length t ≡ at.SIZE) (l : n ≤ at.WHEELS) (i : ℕ) (h : i < n) where
-  pub wheel-transforms : (pose : Pose) → wheelAt (transforms f pose n t) i ≡ updateWheelTransform f pose (wheelAt t i)
-  unfolding transforms transformAt
-  wheel-transforms pose = wheel-each (transformAt f pose) n t s l i h
+module _ (f : Format) (n : ℕ) (t : List Float) (s : length t ≡ at.SIZE) (l : n ≤ at.WHEELS) (i : ℕ) (h : i < n) where
+  module _ (tune : WheelTuning → WheelTuning) where
+    pub wheel-casts : (chassis : Body) (answer : ℕ → RayAnswer) → wheelAt (casts f tune chassis answer n t) i ≡ rayCast f (tune (wheelAt t i .settings .tuning)) chassis (answer i) (wheelAt t i)
+    unfolding casts castAt
+    wheel-casts chassis answer = wheel-each (castAt f tune chassis answer) n t s l i h
 
-  pub wheel-casts : (chassis : Body) (answer : ℕ → RayAnswer) → wheelAt (casts f tune chassis answer n t) i ≡ rayCast f (tune (wheelAt t i .settings)) chassis (answer i) (wheelAt t i)
-  unfolding casts castAt
-  wheel-casts chassis answer = wheel-each (castAt f tune chassis answer) n t s l i h
+    pub wheel-suspensions : (invmass : Float) (answer : ℕ → RayAnswer) → wheelAt (suspensions f tune invmass answer n t) i ≡ suspendedOf f (tune (wheelAt t i .settings .tuning)) invmass (groundedAt answer i) (wheelAt t i)
+    unfolding suspensions suspendAt
+    wheel-suspensions invmass answer = wheel-each (suspendAt f tune invmass answer) n t s l i h
 
-  pub wheel-suspensions : (invmass : Float) (answer : ℕ → RayAnswer) → wheelAt (suspensions f tune invmass answer n t) i ≡ suspendedOf f (tune (wheelAt t i .settings)) invmass (groundedAt answer i) (wheelAt t i)
-  unfolding suspensions suspendAt
-  wheel-suspensions invmass answer = wheel-each (suspendAt f tune invmass answer) n t s l i h
-
-  pub wheel-demands : (r : Frame) (chassis : Body) (grounded : ℕ) (d : ℕ → Directions) → wheelAt (demands f tune r chassis grounded d n t) i ≡ demandAt f tune r chassis grounded d i (wheelAt t i)
-  unfolding demands
-  wheel-demands r chassis grounded d = wheel-each (demandAt f tune r chassis grounded d) n t s l i h
+    pub wheel-demands : (r : Frame) (chassis : Body) (grounded : ℕ) (d : ℕ → Directions) → wheelAt (demands f tune r chassis grounded d n t) i ≡ demandAt f tune r chassis grounded d i (wheelAt t i)
+    unfolding demands
+    wheel-demands r chassis grounded d = wheel-each (demandAt f tune r chassis grounded d) n t s l i h
 
   pub wheel-rescales : wheelAt (rescales f n t) i ≡ withFriction (wheelAt t i) (rescaledOf f (frictionIn (wheelAt t i)))
   unfolding rescales rescaleAt
   wheel-rescales = wheel-each (rescaleAt f) n t s l i h
 
-  pub wheel-spins : (dt : Float) (chassis : Body) (answer : ℕ → RayAnswer) → wheelAt (spins f tune dt chassis answer n t) i ≡ updateRotation f (tune (wheelAt t i .settings)) dt (groundedAt answer i) chassis (wheelAt t i)
+  pub wheel-spins : (dt : Float) (chassis : Body) (answer : ℕ → RayAnswer) → wheelAt (spins f dt chassis answer n t) i ≡ updateRotation f dt (groundedAt answer i) chassis (wheelAt t i)
   unfolding spins spinAt
-  wheel-spins dt chassis answer = wheel-each (spinAt f tune dt chassis answer) n t s l i h
+  wheel-spins dt chassis answer = wheel-each (spinAt f dt chassis answer) n t s l i h

@@ -6,7 +6,7 @@ use mathlib.Core.Path.{_≡_, refl, ap}
 use lib.Ieee.{Float, Format}
 use Rattle.body.specs.declared.Body.{Body}
 use Rattle.tyre.specs.declared.Friction.{Friction}
-use Rattle.wheel.specs.declared.Settings.{Settings}
+use Rattle.tyre.specs.declared.WheelTuning.{WheelTuning}
 use Rattle.wheel.specs.declared.Wheel.{Wheel}
 use Rattle.wheel.specs.declared.Directions.{Directions}
 use Rattle.wheel.specs.declared.Ground.{Ground}
@@ -20,30 +20,30 @@ use Rattle.passes.specs.Frame.{groundUnder}
 use Rattle.passes.specs.Passes.{stored, demandOf}
 
 -- a cast changes the info and the approach alone
-cast-parts : (f : Format) (s : Settings) (chassis : Body) (a : RayAnswer) (w : Wheel)
-    → withApproach (withInfo w (rayCast f s chassis a w .info)) (rayCast f s chassis a w .approach) ≡ rayCast f s chassis a w
+cast-parts : (f : Format) (tuning : WheelTuning) (chassis : Body) (a : RayAnswer) (w : Wheel)
+    → withApproach (withInfo w (rayCast f tuning chassis a w .info)) (rayCast f tuning chassis a w .approach) ≡ rayCast f tuning chassis a w
 unfolding rayCast hitOf missOf
-cast-parts f s chassis Nothing w = refl
-cast-parts f s chassis (Hit time normal named) w = refl
-cast-parts f s chassis (HitUp time normal upward named) w = refl
+cast-parts f tuning chassis Nothing w = refl
+cast-parts f tuning chassis (Hit time normal named) w = refl
+cast-parts f tuning chassis (HitUp time normal upward named) w = refl
 
 module _ (f : Format) (t t' : List Float) (i : ℕ) (w : Wheel) (p : w ≡ wheelAt t i) where
-  pub cast-put : (chassis : Body) (a : RayAnswer) (r : Wheel) → r ≡ rayCast f (w .settings) chassis a w → t' ≡ putWheel t i (withApproach (withInfo (wheelAt t i) (r .info)) (r .approach))
-      → t' ≡ putWheel t i (rayCast f (wheelAt t i .settings) chassis a (wheelAt t i))
-  cast-put chassis a r q e = rw (e, q, p) (ap (putWheel t i) (cast-parts f (wheelAt t i .settings) chassis a (wheelAt t i)))
+  pub cast-put : (chassis : Body) (a : RayAnswer) (r : Wheel) → r ≡ rayCast f (w .settings .tuning) chassis a w → t' ≡ putWheel t i (withApproach (withInfo (wheelAt t i) (r .info)) (r .approach))
+      → t' ≡ putWheel t i (rayCast f (wheelAt t i .settings .tuning) chassis a (wheelAt t i))
+  cast-put chassis a r q e = rw (e, q, p) (ap (putWheel t i) (cast-parts f (wheelAt t i .settings .tuning) chassis a (wheelAt t i)))
 
-  pub force-put : (invmass : Float) (contact : Bool) (x : Float) → x ≡ wheelForce f (w .settings) invmass contact w → t' ≡ putWheel t i (withForce (wheelAt t i) x)
-      → t' ≡ putWheel t i (suspendedOf f (wheelAt t i .settings) invmass contact (wheelAt t i))
+  pub force-put : (invmass : Float) (contact : Bool) (x : Float) → x ≡ wheelForce f (w .settings .tuning) invmass contact w → t' ≡ putWheel t i (withForce (wheelAt t i) x)
+      → t' ≡ putWheel t i (suspendedOf f (wheelAt t i .settings .tuning) invmass contact (wheelAt t i))
   unfolding suspendedOf
   force-put invmass contact x q e = rw (e, q, p)
 
   pub demand-put : (dt : Float) (chassis : Body) (bodies : List Float) (dynamic : List Bool) (a : RayAnswer) (grounded : ℕ) (contact : Bool) (ground : Ground) (d : Directions) (x : Friction)
-      → contact ≡ isGrounded a → ground ≡ groundUnder bodies dynamic a → x ≡ frictionOf f (w .settings) dt chassis contact ground grounded d w
+      → contact ≡ isGrounded a → ground ≡ groundUnder bodies dynamic a → x ≡ frictionOf f (w .settings .tuning) dt chassis contact ground grounded d w
       → t' ≡ putWheel t i (withFriction (wheelAt t i) x) → t' ≡ putWheel t i (demandOf f stored dt chassis bodies dynamic a grounded d (wheelAt t i))
   unfolding demandOf
   demand-put dt chassis bodies dynamic a grounded contact ground d x y z q e = rw (e, q, z, y, p)
 
-  pub spin-put : (dt : Float) (contact : Bool) (chassis : Body) (r : Wheel) → r ≡ updateRotation f (w .settings) dt contact chassis w
-      → t' ≡ putWheel t i (withRotation (wheelAt t i) (r .motion .rotation) (r .motion .spin)) → t' ≡ putWheel t i (updateRotation f (wheelAt t i .settings) dt contact chassis (wheelAt t i))
+  pub spin-put : (dt : Float) (contact : Bool) (chassis : Body) (r : Wheel) → r ≡ updateRotation f dt contact chassis w
+      → t' ≡ putWheel t i (withRotation (wheelAt t i) (r .motion .rotation) (r .motion .spin)) → t' ≡ putWheel t i (updateRotation f dt contact chassis (wheelAt t i))
   unfolding updateRotation spunBy
   spin-put dt contact chassis r q e = rw (e, q, p)

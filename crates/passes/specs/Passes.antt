@@ -1,5 +1,5 @@
 -- Document 01, "A step, in the source's order", over the first n wheels of a table: one pass after another, each wheel by wheel. Definitions only.
--- `t` is the table, `c` the chassis as it stands; `w` is the wheel that a pass has come to. `tune` gives the settings that count in the step from those that the wheel stores.
+-- `t` is the table, `c` the chassis as it stands; `w` is the wheel that a pass has come to. `tune` gives the tuning that counts in the step from the one that the wheel stores.
 use Prim.Native.Nat.{ℕ}
 use mathlib.Core.Bool.{Bool, true}
 use mathlib.Core.List.{List}
@@ -13,8 +13,8 @@ use Rattle.vector.specs.declared.Pose.{Pose}
 use Rattle.vector.specs.Arithmetic.{zeroV}
 use Rattle.body.specs.declared.Body.{Body}
 use Rattle.body.specs.declared.Chassis.{Chassis}
+use Rattle.tyre.specs.declared.WheelTuning.{WheelTuning}
 use Rattle.tyre.specs.Grip.{rescaledOf}
-use Rattle.wheel.specs.declared.Settings.{Settings}
 use Rattle.wheel.specs.declared.Wheel.{Wheel}
 use Rattle.wheel.specs.declared.Directions.{Directions}
 use Rattle.wheel.specs.declared.RayAnswer.{RayAnswer}
@@ -27,9 +27,9 @@ use Rattle.table.specs.Bounds.{STORED}
 use Rattle.table.specs.Rows.{wheelAt, putWheel}
 use Rattle.passes.specs.Frame.{Frame, groundedAt, groundUnder}
 
--- the settings that count are the stored ones
-abbrev pub stored : Settings → Settings
-stored s = s
+-- the tuning that counts is the stored one
+abbrev pub stored : WheelTuning → WheelTuning
+stored tuning = tuning
 
 -- ---- a pass that changes each wheel; one that moves the chassis at each wheel; and one that gives a value for each wheel, `none` for the others
 unfoldable pub changed : (ℕ → Wheel → Wheel) → ℕ → List Float → List Float
@@ -59,23 +59,23 @@ unfoldable pub transforms : Format → Pose → ℕ → List Float → List Floa
 transforms f pose n t = eachWheel (transformAt f pose) n t
 
 -- ---- rules 3 to 5, with the chassis as it was kept
-unfoldable pub castAt : Format → (Settings → Settings) → Body → (ℕ → RayAnswer) → ℕ → Wheel → Wheel
-castAt f tune chassis answer i w = rayCast f (tune (w .settings)) chassis (answer i) w
+unfoldable pub castAt : Format → (WheelTuning → WheelTuning) → Body → (ℕ → RayAnswer) → ℕ → Wheel → Wheel
+castAt f tune chassis answer i w = rayCast f (tune (w .settings .tuning)) chassis (answer i) w
 
-unfoldable pub casts : Format → (Settings → Settings) → Body → (ℕ → RayAnswer) → ℕ → List Float → List Float
+unfoldable pub casts : Format → (WheelTuning → WheelTuning) → Body → (ℕ → RayAnswer) → ℕ → List Float → List Float
 casts f tune chassis answer n t = eachWheel (castAt f tune chassis answer) n t
 
 -- ---- rule 6: forces, then impulses, wheel by wheel
-unfoldable pub suspendAt : Format → (Settings → Settings) → Float → (ℕ → RayAnswer) → ℕ → Wheel → Wheel
-suspendAt f tune invmass answer i w = suspendedOf f (tune (w .settings)) invmass (groundedAt answer i) w
+unfoldable pub suspendAt : Format → (WheelTuning → WheelTuning) → Float → (ℕ → RayAnswer) → ℕ → Wheel → Wheel
+suspendAt f tune invmass answer i w = suspendedOf f (tune (w .settings .tuning)) invmass (groundedAt answer i) w
 
-unfoldable pub suspensions : Format → (Settings → Settings) → Float → (ℕ → RayAnswer) → ℕ → List Float → List Float
+unfoldable pub suspensions : Format → (WheelTuning → WheelTuning) → Float → (ℕ → RayAnswer) → ℕ → List Float → List Float
 suspensions f tune invmass answer n t = eachWheel (suspendAt f tune invmass answer) n t
 
-unfoldable pub springAt : Format → (Settings → Settings) → Float → ℕ → Wheel → Chassis → Chassis
-springAt f tune dt i w c = applySuspension f (tune (w .settings)) dt w c
+unfoldable pub springAt : Format → (WheelTuning → WheelTuning) → Float → ℕ → Wheel → Chassis → Chassis
+springAt f tune dt i w c = applySuspension f (tune (w .settings .tuning)) dt w c
 
-unfoldable pub springs : Format → (Settings → Settings) → Float → ℕ → List Float → Chassis → Chassis
+unfoldable pub springs : Format → (WheelTuning → WheelTuning) → Float → ℕ → List Float → Chassis → Chassis
 springs f tune dt n t c = eachMoves (springAt f tune dt) n t c
 
 -- ---- rule 7: the directions of each wheel, as a list; past its end stands no number
@@ -89,14 +89,14 @@ abbrev pub directionsAt : List Directions → ℕ → Directions
 directionsAt l i = getD l i (record { axis = record { x = nan; y = nan; z = nan }; forward = record { x = nan; y = nan; z = nan } })
 
 -- ---- rule 7, and rule 8 before the rescale: the demands of all wheels, with the chassis after the springs
-unfoldable pub demandOf : Format → (Settings → Settings) → Float → Body → List Float → List Bool → RayAnswer → ℕ → Directions → Wheel → Wheel
+unfoldable pub demandOf : Format → (WheelTuning → WheelTuning) → Float → Body → List Float → List Bool → RayAnswer → ℕ → Directions → Wheel → Wheel
 demandOf f tune dt chassis bodies dynamic answer grounded d w =
-    withFriction w (frictionOf f (tune (w .settings)) dt chassis (isGrounded answer) (groundUnder bodies dynamic answer) grounded d w)
+    withFriction w (frictionOf f (tune (w .settings .tuning)) dt chassis (isGrounded answer) (groundUnder bodies dynamic answer) grounded d w)
 
-unfoldable pub demandAt : Format → (Settings → Settings) → Frame → Body → ℕ → (ℕ → Directions) → ℕ → Wheel → Wheel
+unfoldable pub demandAt : Format → (WheelTuning → WheelTuning) → Frame → Body → ℕ → (ℕ → Directions) → ℕ → Wheel → Wheel
 demandAt f tune r chassis grounded d i w = demandOf f tune (r .dt) chassis (r .bodies) (r .dynamic) (r .answer i) grounded (d i) w
 
-unfoldable pub demands : Format → (Settings → Settings) → Frame → Body → ℕ → (ℕ → Directions) → ℕ → List Float → List Float
+unfoldable pub demands : Format → (WheelTuning → WheelTuning) → Frame → Body → ℕ → (ℕ → Directions) → ℕ → List Float → List Float
 demands f tune r chassis grounded d n t = eachWheel (demandAt f tune r chassis grounded d) n t
 
 -- ---- rule 8: the rescale
@@ -114,18 +114,18 @@ unfoldable pub pushes : Format → Vector → (ℕ → Directions) → ℕ → L
 pushes f up d n t c = eachMoves (pushAt f up d) n t c
 
 -- ---- rule 10, with the chassis after rule 9
-unfoldable pub spinAt : Format → (Settings → Settings) → Float → Body → (ℕ → RayAnswer) → ℕ → Wheel → Wheel
-spinAt f tune dt chassis answer i w = updateRotation f (tune (w .settings)) dt (groundedAt answer i) chassis w
+unfoldable pub spinAt : Format → Float → Body → (ℕ → RayAnswer) → ℕ → Wheel → Wheel
+spinAt f dt chassis answer i w = updateRotation f dt (groundedAt answer i) chassis w
 
-unfoldable pub spins : Format → (Settings → Settings) → Float → Body → (ℕ → RayAnswer) → ℕ → List Float → List Float
-spins f tune dt chassis answer n t = eachWheel (spinAt f tune dt chassis answer) n t
+unfoldable pub spins : Format → Float → Body → (ℕ → RayAnswer) → ℕ → List Float → List Float
+spins f dt chassis answer n t = eachWheel (spinAt f dt chassis answer) n t
 
 -- ---- refusal 7: the demands and the grip limit of each grounded wheel are no NaN and at most 2^40 in magnitude
-unfoldable pub admits : Format → Settings → Float → Wheel → Bool
-admits f s dt w = within STORED (w .motion .forward) and within STORED (w .motion .side) and within STORED (wheelLimit f s dt w)
+unfoldable pub admits : Format → WheelTuning → Float → Wheel → Bool
+admits f tuning dt w = within STORED (w .motion .forward) and within STORED (w .motion .side) and within STORED (wheelLimit f tuning dt w)
 
-unfoldable pub admittedAt : Format → (Settings → Settings) → Float → (ℕ → RayAnswer) → List Float → ℕ → Bool
-admittedAt f tune dt answer t i = pick (groundedAt answer i) (admits f (tune (wheelAt t i .settings)) dt (wheelAt t i)) true
+unfoldable pub admittedAt : Format → (WheelTuning → WheelTuning) → Float → (ℕ → RayAnswer) → List Float → ℕ → Bool
+admittedAt f tune dt answer t i = pick (groundedAt answer i) (admits f (tune (wheelAt t i .settings .tuning)) dt (wheelAt t i)) true
 
-unfoldable pub demandsAdmitted : Format → (Settings → Settings) → Float → (ℕ → RayAnswer) → ℕ → List Float → Bool
+unfoldable pub demandsAdmitted : Format → (WheelTuning → WheelTuning) → Float → (ℕ → RayAnswer) → ℕ → List Float → Bool
 demandsAdmitted f tune dt answer n t = every (admittedAt f tune dt answer t) n 0

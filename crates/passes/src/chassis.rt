@@ -1,10 +1,10 @@
 // Passes that move the chassis at each wheel, in the source's order, and the test of refusal 7.
 use body::Chassis;
 use table::layout::WHEELS;
+use tyre::WheelTuning;
 use vector::Vector;
 use wheel::Directions;
 use wheel::RayAnswer;
-use wheel::Settings;
 use wheel::Wheel;
 ghost use mathlib.Core.Path.{_≡_};
 ghost use Prim.Native.Nat.{_<_, _≤_};
@@ -26,7 +26,7 @@ pub fn spring_pass(table: &[f32], n: usize, chassis: Chassis, dt: f32) -> Chassi
     let mut i = 0usize;
     while i < n {
         let w = table::rows::get_wheel(table, i);
-        c = wheel::step::apply_suspension(w.settings, dt, w, c);
+        c = wheel::step::apply_suspension(w.settings.tuning, dt, w, c);
         i += 1usize;
     }
     c
@@ -81,8 +81,8 @@ pub fn push_pass(
 }
 
 // Refusal 7: whether the demands and the limit of a grounded wheel may stand.
-fn is_admitted(s: Settings, dt: f32, w: Wheel) -> bool
-    ensures { λ r. ⌜ r ≡ admits binary32 s dt w ⌝ }
+fn is_admitted(tuning: WheelTuning, dt: f32, w: Wheel) -> bool
+    ensures { λ r. ⌜ r ≡ admits binary32 tuning dt w ⌝ }
 {
     let m = w.motion;
     if !real::is_within(table::bounds::STORED, m.forward) {
@@ -91,17 +91,20 @@ fn is_admitted(s: Settings, dt: f32, w: Wheel) -> bool
     if !real::is_within(table::bounds::STORED, m.side) {
         return false;
     }
-    real::is_within(table::bounds::STORED, wheel::step::wheel_limit(s, dt, w))
+    real::is_within(
+        table::bounds::STORED,
+        wheel::step::wheel_limit(tuning, dt, w),
+    )
 }
 
 // The same of wheel i, if it is grounded.
 fn is_admitted_at(table: &[f32], i: usize, dt: f32, contact: bool) -> bool
     requires { ⌜ (length (now table) ≡ at.SIZE) × (i < at.WHEELS) ⌝ }
-    ensures { λ r. ⌜ r ≡ pick contact (admits binary32 (wheelAt (now (table .entry)) i .settings) dt (wheelAt (now (table .entry)) i)) true ⌝ }
+    ensures { λ r. ⌜ r ≡ pick contact (admits binary32 (wheelAt (now (table .entry)) i .settings .tuning) dt (wheelAt (now (table .entry)) i)) true ⌝ }
 {
     if contact {
         let w = table::rows::get_wheel(table, i);
-        is_admitted(w.settings, dt, w)
+        is_admitted(w.settings.tuning, dt, w)
     } else {
         true
     }

@@ -35,13 +35,13 @@ pub fn transform_pass(table: &mut [f32], n: usize, pose: Pose)
     }
 }
 
-// Rules 3 to 5, with the wheel's answer. The settings that count in a step are the stored ones, here and below.
+// Rules 3 to 5, with the wheel's answer. The tuning that counts in a step is the stored one, here and below.
 fn cast_wheel(table: &mut [f32], i: usize, chassis: Body, answer: RayAnswer)
     requires { ⌜ (length (now table) ≡ at.SIZE) × (i < at.WHEELS) ⌝ }
-    ensures { λ _. ⌜ now (table .exit) ≡ putWheel (now (table .entry)) i (rayCast binary32 (wheelAt (now (table .entry)) i .settings) chassis answer (wheelAt (now (table .entry)) i)) ⌝ }
+    ensures { λ _. ⌜ now (table .exit) ≡ putWheel (now (table .entry)) i (rayCast binary32 (wheelAt (now (table .entry)) i .settings .tuning) chassis answer (wheelAt (now (table .entry)) i)) ⌝ }
 {
     let w = table::rows::get_wheel(&table[..], i);
-    let r = wheel::ray::ray_cast(w.settings, chassis, answer, w);
+    let r = wheel::ray::ray_cast(w.settings.tuning, chassis, answer, w);
     let info = r.info;
     let approach = r.approach;
     table::rows::put_contact(table, i, info, approach);
@@ -62,13 +62,13 @@ pub fn cast_pass(table: &mut [f32], n: usize, chassis: Body, answers: [RayAnswer
 // Rule 6, the force.
 fn suspend_wheel(table: &mut [f32], i: usize, invmass: f32, contact: bool)
     requires { ⌜ (length (now table) ≡ at.SIZE) × (i < at.WHEELS) ⌝ }
-    ensures { λ _. ⌜ now (table .exit) ≡ putWheel (now (table .entry)) i (suspendedOf binary32 (wheelAt (now (table .entry)) i .settings) invmass contact (wheelAt (now (table .entry)) i)) ⌝ }
+    ensures { λ _. ⌜ now (table .exit) ≡ putWheel (now (table .entry)) i (suspendedOf binary32 (wheelAt (now (table .entry)) i .settings .tuning) invmass contact (wheelAt (now (table .entry)) i)) ⌝ }
 {
     let w = table::rows::get_wheel(&table[..], i);
     table::rows::put_force(
         table,
         i,
-        wheel::step::wheel_force(w.settings, invmass, contact, w),
+        wheel::step::wheel_force(w.settings.tuning, invmass, contact, w),
     );
 }
 
@@ -103,7 +103,7 @@ fn friction_wheel(
     let contact = wheel::ray::is_grounded(answer);
     let ground = super::frame::ground_under(bodies, dynamic, answer);
     let friction = wheel::step::friction_of(
-        w.settings,
+        w.settings.tuning,
         dt,
         chassis,
         contact,
@@ -141,17 +141,17 @@ pub fn friction_pass(
 // Rule 10.
 fn spin_wheel(table: &mut [f32], i: usize, dt: f32, chassis: Body, contact: bool)
     requires { ⌜ (length (now table) ≡ at.SIZE) × (i < at.WHEELS) ⌝ }
-    ensures { λ _. ⌜ now (table .exit) ≡ putWheel (now (table .entry)) i (updateRotation binary32 (wheelAt (now (table .entry)) i .settings) dt contact chassis (wheelAt (now (table .entry)) i)) ⌝ }
+    ensures { λ _. ⌜ now (table .exit) ≡ putWheel (now (table .entry)) i (updateRotation binary32 dt contact chassis (wheelAt (now (table .entry)) i)) ⌝ }
 {
     let w = table::rows::get_wheel(&table[..], i);
-    let r = wheel::step::update_rotation(w.settings, dt, contact, chassis, w);
+    let r = wheel::step::update_rotation(dt, contact, chassis, w);
     let m = r.motion;
     table::rows::put_rotation(table, i, m.rotation, m.spin);
 }
 
 pub fn spin_pass(table: &mut [f32], n: usize, dt: f32, chassis: Body, answers: [RayAnswer; WHEELS])
     requires { ⌜ (length (now table) ≡ at.SIZE) × (n ≤ at.WHEELS) ⌝ }
-    ensures { λ _. ⌜ now (table .exit) ≡ spins binary32 stored dt chassis (answerAt answers) n (now (table .entry)) ⌝ }
+    ensures { λ _. ⌜ now (table .exit) ≡ spins binary32 dt chassis (answerAt answers) n (now (table .entry)) ⌝ }
 {
     let mut i = 0usize;
     while i < n {

@@ -3,15 +3,15 @@ use Prim.Native.Nat.{ℕ}
 use mathlib.Core.Path.{_≡_}
 use lib.Ieee.{Float, Format}
 use Rattle.body.specs.declared.Body.{Body}
-use Rattle.wheel.specs.declared.Settings.{Settings}
+use Rattle.tyre.specs.declared.WheelTuning.{WheelTuning}
 use Rattle.wheel.specs.declared.Ground.{Ground}
 use Rattle.wheel.specs.declared.RayAnswer.{RayAnswer}
 use Rattle.wheel.specs.declared.Wheel.{Wheel}
 use Rattle.wheel.specs.Step.{impulsesOf}
 
 -- "no other wheel's settings or contact change a wheel's two impulses": they are worked out from the time step, the ground body, the kept chassis, the chassis after the springs,
--- the number of grounded wheels, and the wheel's own hit, stored row and settings that count
-pub impulses-alone : (f : Format) {s s' : Settings} {kept kept' sprung sprung' : Body} {dt dt' : Float} {ground ground' : Ground} {grounded grounded' : ℕ} {answer answer' : RayAnswer} {w w' : Wheel}
-    → s ≡ s' → kept ≡ kept' → sprung ≡ sprung' → dt ≡ dt' → ground ≡ ground' → grounded ≡ grounded' → answer ≡ answer' → w ≡ w'
-    → impulsesOf f s kept sprung dt ground grounded answer w ≡ impulsesOf f s' kept' sprung' dt' ground' grounded' answer' w'
+-- the number of grounded wheels, and the wheel's own hit, stored row and the tuning that counts
+pub impulses-alone : (f : Format) {tuning tuning' : WheelTuning} {kept kept' sprung sprung' : Body} {dt dt' : Float} {ground ground' : Ground} {grounded grounded' : ℕ} {answer answer' : RayAnswer} {w w' : Wheel}
+    → tuning ≡ tuning' → kept ≡ kept' → sprung ≡ sprung' → dt ≡ dt' → ground ≡ ground' → grounded ≡ grounded' → answer ≡ answer' → w ≡ w'
+    → impulsesOf f tuning kept sprung dt ground grounded answer w ≡ impulsesOf f tuning' kept' sprung' dt' ground' grounded' answer' w'
 impulses-alone f p a b c d e g h = cc

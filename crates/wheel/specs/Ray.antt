@@ -1,4 +1,4 @@
--- Document 01, rules 1 and 3 to 5 for one wheel: its transform, its ray, and what the ray answer makes of it. `s` are the settings that count in the step. Definitions only.
+-- Document 01, rules 1 and 3 to 5 for one wheel: its transform, its ray, and what the ray answer makes of it. `tuning` is the one that counts in the step. Definitions only.
 use Prim.Native.Nat.{ℕ}
 use mathlib.Core.Bool.{Bool, true, false, cond, _&&_}
 use mathlib.Core.List.{List}
@@ -10,8 +10,8 @@ use Rattle.vector.specs.declared.Pose.{Pose}
 use Rattle.vector.specs.Arithmetic.{addV, negV, scaleV, dotV, rotateV, transformPoint}
 use Rattle.body.specs.declared.Body.{Body}
 use Rattle.body.specs.Body.{velocityAtPoint}
+use Rattle.tyre.specs.declared.WheelTuning.{WheelTuning}
 use Rattle.tyre.specs.Suspension.{suspensionLength, approachOf}
-use Rattle.wheel.specs.declared.Settings.{Settings}
 use Rattle.wheel.specs.declared.Wheel.{Wheel}
 use Rattle.wheel.specs.declared.RayAnswer.{RayAnswer}
 use Rattle.wheel.specs.declared.RayAnswer.the-variants.{Nothing, Hit, HitUp}
@@ -33,8 +33,8 @@ updateWheelTransform f pose w =
     })
 
 -- Rule 3. Ray = direction × (rest + radius).
-unfoldable pub rayOf : Format → Settings → Wheel → Vector
-rayOf f s w = scaleV f (w .place .direction) (add f (s .rest) (s .radius))
+unfoldable pub rayOf : Format → Wheel → Vector
+rayOf f w = scaleV f (w .place .direction) (add f (w .settings .rest) (w .settings .radius))
 
 -- Rule 3. A hit at time 0 takes minus the upward normal if given; if the normal is then zero, minus the direction.
 unfoldable pub isZero : Vector → Bool
@@ -50,25 +50,25 @@ unfoldable pub contactNormal : Float → Vector → Vector → Vector
 contactNormal time normal direction = cond (isUndefined time normal) (negV direction) normal
 
 -- Rule 4. Contact point = source + ray × time; the length; the relative velocity and the inverse. The chassis is as it was kept.
-unfoldable pub hitOf : Format → Settings → Body → Float → Vector → Wheel → Wheel
-hitOf f s chassis time normal w =
-    let point = addV f (w .info .hard) (scaleV f (rayOf f s w) time) in
-    let length = suspensionLength f (s .rest) (s .tuning .travel) (s .radius) time in
+unfoldable pub hitOf : Format → WheelTuning → Body → Float → Vector → Wheel → Wheel
+hitOf f tuning chassis time normal w =
+    let point = addV f (w .info .hard) (scaleV f (rayOf f w) time) in
+    let length = suspensionLength f (w .settings .rest) (tuning .travel) (w .settings .radius) time in
     withApproach (withInfo w (record { normal = normal; point = point; length = length; hard = w .info .hard }))
     (approachOf f (dotV f normal (w .place .direction)) (dotV f normal (velocityAtPoint f chassis point)))
 
 -- Rule 5. Nothing hit: contact point = source + ray, length = rest, velocity 0, inverse 1, normal = minus direction.
-unfoldable pub missOf : Format → Settings → Wheel → Wheel
-missOf f s w =
-    let point = addV f (w .info .hard) (rayOf f s w) in
-    withApproach (withInfo w (record { normal = negV (w .place .direction); point = point; length = s .rest; hard = w .info .hard }))
+unfoldable pub missOf : Format → Wheel → Wheel
+missOf f w =
+    let point = addV f (w .info .hard) (rayOf f w) in
+    withApproach (withInfo w (record { normal = negV (w .place .direction); point = point; length = w .settings .rest; hard = w .info .hard }))
     (record { velocity = zero; inverse = one })
 
 -- The wheel once its ray answer is in.
-unfoldable pub rayCast : Format → Settings → Body → RayAnswer → Wheel → Wheel
-rayCast f s chassis Nothing w = missOf f s w
-rayCast f s chassis (Hit time normal named) w = hitOf f s chassis time (contactNormal time normal (w .place .direction)) w
-rayCast f s chassis (HitUp time normal upward named) w = hitOf f s chassis time (contactNormal time (upwardNormal time normal upward) (w .place .direction)) w
+unfoldable pub rayCast : Format → WheelTuning → Body → RayAnswer → Wheel → Wheel
+rayCast f tuning chassis Nothing w = missOf f w
+rayCast f tuning chassis (Hit time normal named) w = hitOf f tuning chassis time (contactNormal time normal (w .place .direction)) w
+rayCast f tuning chassis (HitUp time normal upward named) w = hitOf f tuning chassis time (contactNormal time (upwardNormal time normal upward) (w .place .direction)) w
 
 -- Rule 7. Every hit grounds its wheel.
 unfoldable pub isGrounded : RayAnswer → Bool

@@ -1,11 +1,11 @@
-// Where one wheel is, and what its ray met: document 01, rules 1 and 3 to 5. `s` are the settings that count in the step.
+// Where one wheel is, and what its ray met: document 01, rules 1 and 3 to 5. `tuning` is the one that counts in the step.
 use super::Place;
 use super::RayAnswer;
 use super::RayCastInfo;
-use super::Settings;
 use super::Wheel;
 use body::Body;
 use tyre::Approach;
+use tyre::WheelTuning;
 use tyre::suspension;
 use vector::Pose;
 use vector::Vector;
@@ -44,10 +44,10 @@ pub fn update_wheel_transform(pose: Pose, w: Wheel) -> Wheel
 }
 
 // Rule 3: the ray, from the hard point.
-pub fn ray_of(s: Settings, w: Wheel) -> Vector
-    ensures { λ r. ⌜ r ≡ rayOf binary32 s w ⌝ }
+pub fn ray_of(w: Wheel) -> Vector
+    ensures { λ r. ⌜ r ≡ rayOf binary32 w ⌝ }
 {
-    vector::scale(w.place.direction, s.rest + s.radius)
+    vector::scale(w.place.direction, w.settings.rest + w.settings.radius)
 }
 
 fn is_zero(v: Vector) -> bool
@@ -86,12 +86,17 @@ fn contact_normal(time: f32, normal: Vector, direction: Vector) -> Vector
 }
 
 // Rule 4: the wheel after a hit.
-fn hit_of(s: Settings, chassis: Body, time: f32, normal: Vector, w: Wheel) -> Wheel
-    ensures { λ r. ⌜ r ≡ hitOf binary32 s chassis time normal w ⌝ }
+fn hit_of(tuning: WheelTuning, chassis: Body, time: f32, normal: Vector, w: Wheel) -> Wheel
+    ensures { λ r. ⌜ r ≡ hitOf binary32 tuning chassis time normal w ⌝ }
 {
     let hard = w.info.hard;
-    let point = vector::add(hard, vector::scale(ray_of(s, w), time));
-    let length = suspension::suspension_length(s.rest, s.tuning.travel, s.radius, time);
+    let point = vector::add(hard, vector::scale(ray_of(w), time));
+    let length = suspension::suspension_length(
+        w.settings.rest,
+        tuning.travel,
+        w.settings.radius,
+        time,
+    );
     let facing = vector::dot(normal, w.place.direction);
     let speed = vector::dot(normal, body::velocity_at_point(chassis, point));
     let info = RayCastInfo {
@@ -107,16 +112,16 @@ fn hit_of(s: Settings, chassis: Body, time: f32, normal: Vector, w: Wheel) -> Wh
 }
 
 // Rule 5: the wheel where nothing was hit.
-fn miss_of(s: Settings, w: Wheel) -> Wheel
-    ensures { λ r. ⌜ r ≡ missOf binary32 s w ⌝ }
+fn miss_of(w: Wheel) -> Wheel
+    ensures { λ r. ⌜ r ≡ missOf binary32 w ⌝ }
 {
     let hard = w.info.hard;
     let normal = vector::neg(w.place.direction);
-    let point = vector::add(hard, ray_of(s, w));
+    let point = vector::add(hard, ray_of(w));
     let info = RayCastInfo {
         normal,
         point,
-        length: s.rest,
+        length: w.settings.rest,
         hard,
     };
     let approach = Approach {
@@ -130,13 +135,13 @@ fn miss_of(s: Settings, w: Wheel) -> Wheel
 }
 
 // The wheel once its ray answer is in.
-pub fn ray_cast(s: Settings, chassis: Body, answer: RayAnswer, w: Wheel) -> Wheel
-    ensures { λ r. ⌜ r ≡ rayCast binary32 s chassis answer w ⌝ }
+pub fn ray_cast(tuning: WheelTuning, chassis: Body, answer: RayAnswer, w: Wheel) -> Wheel
+    ensures { λ r. ⌜ r ≡ rayCast binary32 tuning chassis answer w ⌝ }
 {
     match answer {
-        RayAnswer::Nothing => miss_of(s, w),
+        RayAnswer::Nothing => miss_of(w),
         RayAnswer::Hit(time, normal, _) => hit_of(
-            s,
+            tuning,
             chassis,
             time,
             contact_normal(time, normal, w.place.direction),
@@ -145,7 +150,7 @@ pub fn ray_cast(s: Settings, chassis: Body, answer: RayAnswer, w: Wheel) -> Whee
         RayAnswer::HitUp(time, normal, upward, _) => {
             let turned = upward_normal(time, normal, upward);
             hit_of(
-                s,
+                tuning,
                 chassis,
                 time,
                 contact_normal(time, turned, w.place.direction),

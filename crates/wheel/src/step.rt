@@ -1,12 +1,12 @@
-// One wheel of a drive: document 01, rules 6 to 10, in the source's order. `s` are the settings that count in the step.
+// One wheel of a drive: document 01, rules 6 to 10, in the source's order. `tuning` is the one that counts in the step.
 use super::Directions;
 use super::Ground;
-use super::Settings;
 use super::Wheel;
 use super::contact;
 use body::Body;
 use body::Chassis;
 use tyre::Friction;
+use tyre::WheelTuning;
 use tyre::demand;
 use tyre::grip;
 use tyre::suspension;
@@ -19,50 +19,50 @@ ghost use Rattle.wheel.specs.Step.{contactForce, wheelForce, applySuspen
 const ROLL_INFLUENCE: f32 = 0.1;
 
 // Rule 6: the force of the wheel's spring in contact.
-fn contact_force(s: Settings, invmass: f32, w: Wheel) -> f32
-    ensures { λ r. ⌜ r ≡ contactForce binary32 s invmass w ⌝ }
+fn contact_force(tuning: WheelTuning, invmass: f32, w: Wheel) -> f32
+    ensures { λ r. ⌜ r ≡ contactForce binary32 tuning invmass w ⌝ }
 {
-    suspension::suspension_force(s.tuning, s.rest, w.info.length, w.approach, invmass)
+    suspension::suspension_force(tuning, w.settings.rest, w.info.length, w.approach, invmass)
 }
 
 // Rule 6: the force of the wheel's spring; 0 in the air.
-pub fn wheel_force(s: Settings, invmass: f32, contact: bool, w: Wheel) -> f32
-    ensures { λ r. ⌜ r ≡ wheelForce binary32 s invmass contact w ⌝ }
+pub fn wheel_force(tuning: WheelTuning, invmass: f32, contact: bool, w: Wheel) -> f32
+    ensures { λ r. ⌜ r ≡ wheelForce binary32 tuning invmass contact w ⌝ }
 {
     if contact {
-        contact_force(s, invmass, w)
+        contact_force(tuning, invmass, w)
     } else {
         0.0
     }
 }
 
 // Rule 6: the chassis after the impulse of the wheel's spring, whose force is cut to the maximum.
-pub fn apply_suspension(s: Settings, dt: f32, w: Wheel, chassis: Chassis) -> Chassis
-    ensures { λ r. ⌜ r ≡ applySuspension binary32 s dt w chassis ⌝ }
+pub fn apply_suspension(tuning: WheelTuning, dt: f32, w: Wheel, chassis: Chassis) -> Chassis
+    ensures { λ r. ⌜ r ≡ applySuspension binary32 tuning dt w chassis ⌝ }
 {
     let info = w.info;
-    let force = suspension::cut_of(w.motion.force, s.tuning.most);
+    let force = suspension::cut_of(w.motion.force, tuning.most);
     let impulse = vector::scale(vector::scale(info.normal, force), dt);
     body::apply_impulse_at_point(chassis, impulse, info.point)
 }
 
 // Rule 6: the wheel's grip limit.
-pub fn wheel_limit(s: Settings, dt: f32, w: Wheel) -> f32
-    ensures { λ r. ⌜ r ≡ wheelLimit binary32 s dt w ⌝ }
+pub fn wheel_limit(tuning: WheelTuning, dt: f32, w: Wheel) -> f32
+    ensures { λ r. ⌜ r ≡ wheelLimit binary32 tuning dt w ⌝ }
 {
-    grip::limit_of(w.motion.force, dt, s.tuning.slip)
+    grip::limit_of(w.motion.force, dt, tuning.slip)
 }
 
 // Rule 7: the side demand of a grounded wheel with this axis: the source's resolve_single_bilateral and resolve_single_unilateral in one, times
 // the side stiffness.
-fn side_demand(s: Settings, chassis: Body, ground: Ground, axis: Vector, w: Wheel) -> f32
-    ensures { λ r. ⌜ r ≡ sideDemand binary32 s chassis ground axis w ⌝ }
+fn side_demand(tuning: WheelTuning, chassis: Body, ground: Ground, axis: Vector, w: Wheel) -> f32
+    ensures { λ r. ⌜ r ≡ sideDemand binary32 tuning chassis ground axis w ⌝ }
 {
     let p = w.info.point;
     let counted = contact::dynamic_ground(ground);
     let speed = vector::dot(axis, contact::relative_velocity(chassis, counted, p));
     let sum = contact::jacobian_diagonal(chassis, counted, p, axis);
-    demand::side_response(speed, sum, s.tuning.sideways)
+    demand::side_response(speed, sum, tuning.sideways)
 }
 
 // Rule 7: the rolling demand of a grounded wheel with this rolling direction.
@@ -85,7 +85,7 @@ fn rolling_demand(
 
 // Rules 7 and 8: the demands and the skid of the wheel with these directions, before the rescale.
 pub fn friction_of(
-    s: Settings,
+    tuning: WheelTuning,
     dt: f32,
     chassis: Body,
     contact: bool,
@@ -94,12 +94,12 @@ pub fn friction_of(
     d: Directions,
     w: Wheel,
 ) -> Friction
-    ensures { λ r. ⌜ r ≡ frictionOf binary32 s dt chassis contact ground grounded d w ⌝ }
+    ensures { λ r. ⌜ r ≡ frictionOf binary32 tuning dt chassis contact ground grounded d w ⌝ }
 {
     if contact {
         let forward = rolling_demand(dt, chassis, ground, grounded, d.forward, w);
-        let side = side_demand(s, chassis, ground, d.axis, w);
-        grip::with_skid(forward, side, wheel_limit(s, dt, w))
+        let side = side_demand(tuning, chassis, ground, d.axis, w);
+        grip::with_skid(forward, side, wheel_limit(tuning, dt, w))
     } else {
         grip::airborne()
     }
@@ -125,13 +125,13 @@ pub fn apply_friction(up: Vector, d: Directions, w: Wheel, chassis: Chassis) -> 
 }
 
 // Rule 10: the spin of a wheel in contact.
-fn contact_spin(s: Settings, dt: f32, chassis: Body, w: Wheel) -> f32
-    ensures { λ r. ⌜ r ≡ contactSpin binary32 s dt chassis w ⌝ }
+fn contact_spin(dt: f32, chassis: Body, w: Wheel) -> f32
+    ensures { λ r. ⌜ r ≡ contactSpin binary32 dt chassis w ⌝ }
 {
     let info = w.info;
     let forward = vector::normalize_or_zero(vector::cross(info.normal, w.place.axle));
     let speed = vector::dot(forward, body::velocity_at_point(chassis, info.hard));
-    speed * dt / s.radius
+    speed * dt / w.settings.radius
 }
 
 // Rule 10: the wheel rotated by a spin.
@@ -149,11 +149,11 @@ fn spun_by(spin: f32, w: Wheel) -> Wheel
 }
 
 // Rule 10: the wheel after the drive.
-pub fn update_rotation(s: Settings, dt: f32, contact: bool, chassis: Body, w: Wheel) -> Wheel
-    ensures { λ r. ⌜ r ≡ updateRotation binary32 s dt contact chassis w ⌝ }
+pub fn update_rotation(dt: f32, contact: bool, chassis: Body, w: Wheel) -> Wheel
+    ensures { λ r. ⌜ r ≡ updateRotation binary32 dt contact chassis w ⌝ }
 {
     if contact {
-        spun_by(contact_spin(s, dt, chassis, w), w)
+        spun_by(contact_spin(dt, chassis, w), w)
     } else {
         spun_by(w.motion.spin, w)
     }

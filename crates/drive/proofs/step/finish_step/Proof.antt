@@ -40,7 +40,7 @@ returns c =
     let at-spin-pass = at-put-chassis .before .before .before .before in
     let push = at-spin-pass .before .before in
     let at-ith = push .before .before .before in
-    finish-step-of-passes _ _ _ _ _ _ _ _ _ _ _ _ _ _ _ (at-ith .before .before .before .before .rescale-pass .ensures) (at-ith .ith .ensures) (push .before .before .rotate .ensures)
+    finish-step-of-passes _ _ _ _ _ _ _ _ _ _ _ _ _ _ (at-ith .before .before .before .before .rescale-pass .ensures) (at-ith .ith .ensures) (push .before .before .rotate .ensures)
     (push .push-pass .ensures) (at-spin-pass .spin-pass .ensures) (at-put-chassis .put-chassis .ensures)
 
 pub finish-step-spec : {M : Type 1} → statement M

@@ -5,13 +5,13 @@ use native.Mathlib.Omega.{arith}
 use lib.Ieee.{binary32}
 use Rattle.wheel.specs.Ray.{answerAt}
 use Rattle.passes.specs.Frame.{groundedAt}
-use Rattle.passes.specs.Passes.{stored, changed, spinAt, spins}
+use Rattle.passes.specs.Passes.{changed, spinAt, spins}
 use Rattle.passes.proofs.Laws.{Passing, passing-start, passing-again, passing-done}
 use Rattle.passes.proofs.rows.spin_pass.Statement.{statement}
 use Rattle.passes.proofs.rows.spin_pass.Tie as tie
 
 abbrev Inv-loop : tie.InvT-loop
-Inv-loop table₀ n dt chassis answers i₀ table i = Passing (spinAt binary32 stored dt chassis (answerAt answers)) n table₀ i table
+Inv-loop table₀ n dt chassis answers i₀ table i = Passing (spinAt binary32 dt chassis (answerAt answers)) n table₀ i table
 
 abbrev μ-loop : tie.MeasureT-loop
 μ-loop table₀ n dt chassis answers i₀ table i = n - i
