@@ -4,8 +4,6 @@ use super::results;
 use drive::Driven;
 use scenario::decode;
 use scenario::frame;
-use scenario::layout::BODIES;
-use scenario::layout::BODY_WORDS;
 use table::layout;
 use table::layout::COUNT;
 ghost use mathlib.Core.Path.{_≡_};
@@ -53,7 +51,7 @@ fn drive_on(
     let dt = frame::step_from(words);
     let nb = frame::body_count_from(words) as usize;
     let na = frame::answer_count_from(words, nb) as usize;
-    let answers = frame::decode_answers(words, BODIES + nb * BODY_WORDS + 1, na);
+    let answers = frame::decode_answers(words, frame::answers_start(nb), na);
     drive::advance::drive(table, whole, dt, bodies, flags, answers, na)
 }
 

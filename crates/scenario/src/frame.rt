@@ -16,7 +16,7 @@ ghost use Rattle.table.specs.Layout as table;
 ghost use Rattle.stream.specs.Layout as code;
 ghost use Rattle.scenario.specs.Layout as at;
 ghost use Rattle.scenario.specs.Format.{format};
-ghost use Rattle.scenario.specs.Frame.{stepFrom, bodyCountFrom, bodyNumberFrom, bodiesFrom, flagFrom, flagsFrom, answerCountFrom, hitFrom, hitUpFrom, answerFrom, answerWords, answersFrom};
+ghost use Rattle.scenario.specs.Frame.{stepFrom, bodyCountFrom, bodyStart, bodyNumberFrom, bodiesFrom, flagFrom, flagsFrom, answerCountFrom, answersStart, hitFrom, hitUpFrom, answerFrom, answerWords, answersFrom};
 
 pub fn step_from(words: &[u32]) -> f32
     requires { ⌜ length (now words) ≡ code.CODE-WORDS ⌝ }
@@ -32,12 +32,20 @@ pub fn body_count_from(words: &[u32]) -> u32
     words[BODY_COUNT]
 }
 
+// Where body i starts; with the number of bodies, where the number of answers stands.
+fn body_start(i: usize) -> usize
+    requires { ⌜ i ≤ code.BODIES ⌝ }
+    ensures { λ r. ⌜ r ≡ bodyStart i ⌝ }
+{
+    BODIES + i * BODY_WORDS
+}
+
 // Number k of the bodies as they are lent.
 fn body_number_from(words: &[u32], k: usize) -> f32
     requires { ⌜ (length (now words) ≡ code.CODE-WORDS) × (k < code.BODIES * table.BODY) ⌝ }
     ensures { λ r. ⌜ r ≡ bodyNumberFrom format (now (words .entry)) k ⌝ }
 {
-    decode::float_from(words, BODIES + k / BODY * BODY_WORDS + k % BODY)
+    decode::float_from(words, body_start(k / BODY) + k % BODY)
 }
 
 // Whether body i is dynamic.
@@ -45,14 +53,22 @@ fn flag_from(words: &[u32], i: usize) -> bool
     requires { ⌜ (length (now words) ≡ code.CODE-WORDS) × (i < code.BODIES) ⌝ }
     ensures { λ r. ⌜ r ≡ flagFrom (now (words .entry)) i ⌝ }
 {
-    words[BODIES + i * BODY_WORDS + FLAG] == DYNAMIC
+    words[body_start(i) + FLAG] == DYNAMIC
 }
 
 pub fn answer_count_from(words: &[u32], bodies: usize) -> u32
     requires { ⌜ (length (now words) ≡ code.CODE-WORDS) × (bodies ≤ code.BODIES) ⌝ }
     ensures { λ r. ⌜ r ≡ answerCountFrom (now (words .entry)) bodies ⌝ }
 {
-    words[BODIES + bodies * BODY_WORDS]
+    words[body_start(bodies)]
+}
+
+// Where the answers start behind so many bodies.
+pub fn answers_start(bodies: usize) -> usize
+    requires { ⌜ bodies ≤ code.BODIES ⌝ }
+    ensures { λ r. ⌜ r ≡ answersStart bodies ⌝ }
+{
+    body_start(bodies) + 1
 }
 
 fn hit_from(words: &[u32], a: usize) -> RayAnswer

@@ -11,15 +11,16 @@ unfolding answersOf
 counted c = rw (← c .before .body-count-from .ensures) (c .answer-count-from .ensures)
 
 decode-answers-requires : tie.Need-decode-answers-requires
-decode-answers-requires c κs = let n = counted c in search needs
+decode-answers-requires c κs = let n = counted (c .before) in search needs
 
 returns : tie.Need-returns
 unfolding frameFrom
 returns c =
     let call = c .before .before .before .before in
     let answers = call .before .before .before in
-    let count = answers .before in
-    rw (answers .decode-answers .ensures, counted count, count .before .body-count-from .ensures, count .before .before .step-from .ensures) at (call .drive .ensures)
+    let start = answers .before in
+    let count = start .before in
+    rw (answers .decode-answers .ensures, start .answers-start .ensures, counted count, count .before .body-count-from .ensures, count .before .before .step-from .ensures) at (call .drive .ensures)
 
 pub drive-on-spec : {M : Type 1} → statement M
 drive-on-spec =
@@ -30,9 +31,7 @@ drive-on-spec =
     (λ c. search needs)
     (λ c κs. search needs)
     (λ c. search needs)
-    (λ c. search needs)
-    (λ c. search needs)
-    (λ c. search needs)
+    (λ c κs. search needs)
     decode-answers-requires
     (λ c κs. tt)
     (λ c. search needs)

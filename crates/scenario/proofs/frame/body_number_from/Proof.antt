@@ -6,7 +6,7 @@ use Rattle.scenario.proofs.frame.body_number_from.Tie as tie
 
 returns : tie.Need-returns
 unfolding bodyNumberFrom
-returns c = rw (← c .float-from .ensures)
+returns c = rw (← c .before .body-start .ensures, ← c .float-from .ensures)
 
 pub body-number-from-spec : {M : Type 1} → statement M
-body-number-from-spec = tie.close (tie.spec (λ c. search needs) (λ c. search needs) (λ c. search needs) (λ c κs. search needs) returns)
+body-number-from-spec = tie.close (tie.spec (λ c κs. search needs) (λ c. search needs) (λ c κs. search needs) returns)

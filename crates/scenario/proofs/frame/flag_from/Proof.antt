@@ -1,6 +1,5 @@
 -- `scenario::frame::flag_from` meets its contract: the definition, replayed as the code runs. Assumes nothing.
 use borrow.Author.Needs.{needs}
-use mathlib.Core.Path.{refl}
 use Rattle.scenario.specs.Decode.{numberFrom}
 use Rattle.scenario.specs.Frame.{flagFrom}
 use Rattle.scenario.proofs.frame.flag_from.Statement.{statement}
@@ -8,7 +7,7 @@ use Rattle.scenario.proofs.frame.flag_from.Tie as tie
 
 returns : tie.Need-returns
 unfolding flagFrom numberFrom
-returns c = refl
+returns c = rw (c .before .body-start .ensures)
 
 pub flag-from-spec : {M : Type 1} → statement M
-flag-from-spec = tie.close (tie.spec (λ c. search needs) (λ c. search needs) (λ c. search needs) (λ c. search needs) (λ c. search needs) returns)
+flag-from-spec = tie.close (tie.spec (λ c κs. search needs) (λ c. search needs) (λ c. search needs) (λ c. search needs) returns)
