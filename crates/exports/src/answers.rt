@@ -2,10 +2,7 @@
 use super::layout::*;
 use drive::Driven;
 use refusals::shape;
-use table::layout::AIMED;
-use table::layout::BODIES;
-use table::layout::MARK;
-use table::layout::WHEELS;
+use table::layout as lent;
 use wheel::RayAnswer;
 ghost use mathlib.Core.Path.{_≡_};
 ghost use mathlib.Core.Bool.{true, false};
@@ -41,7 +38,7 @@ fn all_at_most(most: u32, s: &[u32]) -> bool
 fn do_flags_fit(dynamic: &[u32]) -> bool
     ensures { λ r. ⌜ r ≡ flagsFit (now (dynamic .entry)) ⌝ }
 {
-    if dynamic.len() > BODIES {
+    if dynamic.len() > lent::BODIES {
         return false;
     }
     all_at_most(DYNAMIC, dynamic)
@@ -52,7 +49,7 @@ fn do_answers_fit(kinds: &[u32], named: &[u32], rays: &[f32]) -> bool
     ensures { λ r. ⌜ r ≡ answersFit (now (kinds .entry)) (now (named .entry)) (now (rays .entry)) ⌝ }
 {
     let n = kinds.len();
-    if n > WHEELS {
+    if n > lent::WHEELS {
         return false;
     }
     if named.len() != n {
@@ -88,7 +85,7 @@ pub fn refuse_lists(
     if !shape::is_shape_ok(table, whole) {
         return 1;
     }
-    if whole[MARK] != AIMED {
+    if whole[lent::MARK] != lent::AIMED {
         return 5;
     }
     if !do_lists_fit(dynamic, kinds, named, rays) {
@@ -98,11 +95,11 @@ pub fn refuse_lists(
 }
 
 // The flags of a drive's bodies, and false after them.
-fn decode_flags(dynamic: &[u32]) -> [bool; 64]
+fn decode_flags(dynamic: &[u32]) -> [bool; lent::BODIES]
     requires { ⌜ length (now dynamic) ≤ lent.BODIES ⌝ }
     ensures { λ r. ⌜ r ≡ paste (replicate lent.BODIES false) 0 (flagsIn (now (dynamic .entry))) ⌝ }
 {
-    let mut flags = [false; 64];
+    let mut flags = [false; lent::BODIES];
     let mut i = 0usize;
     while i < dynamic.len() {
         flags[i] = dynamic[i] == DYNAMIC;
@@ -148,11 +145,11 @@ fn answer_in(kinds: &[u32], named: &[u32], rays: &[f32], i: usize) -> RayAnswer
 }
 
 // The ray answers of a drive, and nothing for the wheels after them.
-fn decode_answers(kinds: &[u32], named: &[u32], rays: &[f32]) -> [RayAnswer; WHEELS]
+fn decode_answers(kinds: &[u32], named: &[u32], rays: &[f32]) -> [RayAnswer; lent::WHEELS]
     requires { ⌜ (length (now kinds) ≤ lent.WHEELS) × (length (now named) ≡ length (now kinds)) × (length (now rays) ≡ length (now kinds) * at.RAY) ⌝ }
     ensures { λ r. ⌜ r ≡ answersIn (now (kinds .entry)) (now (named .entry)) (now (rays .entry)) ⌝ }
 {
-    let mut answers = [RayAnswer::Nothing; WHEELS];
+    let mut answers = [RayAnswer::Nothing; lent::WHEELS];
     let mut i = 0usize;
     while i < kinds.len() {
         answers[i] = answer_in(kinds, named, rays, i);

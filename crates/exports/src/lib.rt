@@ -2,12 +2,7 @@
 // numbers and flat lists; a list is a pointer and a length. Each is total on every length and every number, answers the refusal number of its
 // call, and refuses with 1, before all else, a list of settings, controls, chassis or results of the wrong length. Results are written only
 // where the answer is 0.
-use table::layout::BODY;
-use table::layout::CONTROLS;
-use table::layout::KEPT;
-use table::layout::SETTINGS;
-use table::layout::SIZE;
-use table::layout::WHOLE;
+use table::layout as lent;
 use vehicle::read::READING;
 ghost use mathlib.Core.Path.{_≡_};
 ghost use lib.Ieee.{binary32};
@@ -48,7 +43,7 @@ pub extern "C" fn vehicle_set_up(table: &mut [f32], whole: &mut [u32], up: u32, 
 pub extern "C" fn vehicle_add_wheel(table: &mut [f32], whole: &mut [u32], settings: &[f32]) -> u32
     ensures { λ r. ⌜ after r (now (table .exit)) (now (whole .exit)) ≡ flatAdd (now (table .entry)) (now (whole .entry)) (now (settings .entry)) ⌝ }
 {
-    if settings.len() != SETTINGS {
+    if settings.len() != lent::SETTINGS {
         return 1;
     }
     let s = table::parts::settings_at(settings, 0);
@@ -66,7 +61,7 @@ pub extern "C" fn vehicle_set_controls(
 ) -> u32
     ensures { λ r. ⌜ after r (now (table .exit)) (now (whole .exit)) ≡ flatControls binary32 (now (table .entry)) (now (whole .entry)) wheel (now (controls .entry)) ⌝ }
 {
-    if controls.len() != CONTROLS {
+    if controls.len() != lent::CONTROLS {
         return 1;
     }
     let c = table::parts::controls_at(controls, 0);
@@ -85,7 +80,7 @@ pub extern "C" fn vehicle_aim(
 ) -> u32
     ensures { λ r. ⌜ after (flat r (now (results .exit))) (now (table .exit)) (now (whole .exit)) ≡ flatAim binary32 (now (table .entry)) (now (whole .entry)) (now (chassis .entry)) (now (results .entry)) ⌝ }
 {
-    if chassis.len() != KEPT {
+    if chassis.len() != lent::KEPT {
         return 1;
     }
     if results.len() != layout::AIM {
@@ -153,7 +148,7 @@ pub extern "C" fn vehicle_read_wheel(
 pub extern "C" fn vehicle_table_len() -> u32
     ensures { λ r. ⌜ r ≡ lent.SIZE ⌝ }
 {
-    SIZE as u32
+    lent::SIZE as u32
 }
 
 // How many whole numbers stand beside it.
@@ -161,7 +156,7 @@ pub extern "C" fn vehicle_table_len() -> u32
 pub extern "C" fn vehicle_whole_len() -> u32
     ensures { λ r. ⌜ r ≡ lent.WHOLE ⌝ }
 {
-    WHOLE as u32
+    lent::WHOLE as u32
 }
 
 // How many numbers the settings of a wheel are.
@@ -169,7 +164,7 @@ pub extern "C" fn vehicle_whole_len() -> u32
 pub extern "C" fn vehicle_settings_len() -> u32
     ensures { λ r. ⌜ r ≡ lent.SETTINGS ⌝ }
 {
-    SETTINGS as u32
+    lent::SETTINGS as u32
 }
 
 // How many numbers the controls of a wheel are.
@@ -177,7 +172,7 @@ pub extern "C" fn vehicle_settings_len() -> u32
 pub extern "C" fn vehicle_controls_len() -> u32
     ensures { λ r. ⌜ r ≡ lent.CONTROLS ⌝ }
 {
-    CONTROLS as u32
+    lent::CONTROLS as u32
 }
 
 // How many numbers a chassis is.
@@ -185,7 +180,7 @@ pub extern "C" fn vehicle_controls_len() -> u32
 pub extern "C" fn vehicle_chassis_len() -> u32
     ensures { λ r. ⌜ r ≡ lent.KEPT ⌝ }
 {
-    KEPT as u32
+    lent::KEPT as u32
 }
 
 // How many numbers a ground body is.
@@ -193,7 +188,7 @@ pub extern "C" fn vehicle_chassis_len() -> u32
 pub extern "C" fn vehicle_body_len() -> u32
     ensures { λ r. ⌜ r ≡ lent.BODY ⌝ }
 {
-    BODY as u32
+    lent::BODY as u32
 }
 
 // How many numbers a ray answer is.
