@@ -60,7 +60,7 @@ use Rattle.demands.proofs.Passed.{sprungWheel, sprung-keeps-controls, s
 rolled-fits : (f : Format) (dt engine brake uncut : Float) → T (fits f brake) → T (fits f uncut) → T (fits f (rollingOf f dt engine brake uncut))
 unfolding rollingOf brakedOf
 rolled-fits f dt engine brake uncut b u =
-    cond-fits f (ne engine zero) (mul f engine dt) (clampOf (neg brake) brake uncut) (mul-fits f engine dt) (clamp-fits f (neg brake) brake uncut (neg-fits f brake b) b u)
+    cond-fits f (ne engine zero) (mul f engine dt) (clampOf uncut (neg brake) brake) (mul-fits f engine dt) (clamp-fits f (neg brake) brake uncut (neg-fits f brake b) b u)
 
 module _ (f : Format) (own : WheelTuning) (dt : Float) (body : Body) (ground : Ground) (grounded : ℕ) (axis forward : Vector) (w : Wheel) where
   -- rule 7's rolling demand before the clamp

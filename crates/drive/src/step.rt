@@ -31,19 +31,19 @@ pub fn demand_step(
     let b = kept.body;
     passes::rows::cast_pass(table, n, b, answers);
     passes::rows::suspension_pass(table, n, b.invmass, answers);
-    let c = passes::chassis::spring_pass(&table[..], n, kept, dt);
+    let c = passes::chassis::spring_pass(&table[..], n, dt, kept);
     let grounded = passes::frame::count_grounded(answers, n);
     let directions = passes::chassis::directions_in(&table[..], n);
     passes::rows::friction_pass(
         table,
         n,
-        directions,
         dt,
-        c.body,
         bodies,
         dynamic,
         answers,
+        c.body,
         grounded,
+        directions,
     );
     Demanded {
         chassis: c,
@@ -67,7 +67,7 @@ pub fn finish_step(
     slides::rescale_pass(table, n);
     let p = c.pose;
     let axis = vector::rotate(p.rotation, vector::ith(up));
-    let after = passes::chassis::push_pass(&table[..], n, directions, c, axis);
+    let after = passes::chassis::push_pass(&table[..], n, axis, directions, c);
     passes::rows::spin_pass(table, n, dt, after.body, answers);
     table::rows::put_chassis(table, after);
     after

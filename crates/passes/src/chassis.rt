@@ -18,7 +18,7 @@ ghost use Rattle.wheel.specs.Ray.{answerAt};
 ghost use Rattle.passes.specs.Passes.{stored, springs, noDirections, directionsIn, directionsAt, pushes, admits, demandsAdmitted};
 
 // Rule 6: the chassis after the springs of the first n wheels.
-pub fn spring_pass(table: &[f32], n: usize, chassis: Chassis, dt: f32) -> Chassis
+pub fn spring_pass(table: &[f32], n: usize, dt: f32, chassis: Chassis) -> Chassis
     requires { ⌜ (length (now table) ≡ at.SIZE) × (n ≤ at.WHEELS) ⌝ }
     ensures { λ r. ⌜ r ≡ springs binary32 stored dt n (now (table .entry)) chassis ⌝ }
 {
@@ -62,9 +62,9 @@ pub fn directions_in(table: &[f32], n: usize) -> [Directions; WHEELS]
 pub fn push_pass(
     table: &[f32],
     n: usize,
+    up: Vector,
     directions: [Directions; WHEELS],
     chassis: Chassis,
-    up: Vector,
 ) -> Chassis
     requires { ⌜ (length (now table) ≡ at.SIZE) × (n ≤ at.WHEELS) ⌝ }
     ensures { λ r. ⌜ r ≡ pushes binary32 up (directionsAt directions) n (now (table .entry)) chassis ⌝ }

@@ -88,13 +88,13 @@ pub fn suspension_pass(table: &mut [f32], n: usize, invmass: f32, answers: [RayA
 fn friction_wheel(
     table: &mut [f32],
     i: usize,
-    d: Directions,
     dt: f32,
     chassis: Body,
     bodies: &[f32],
     dynamic: &[bool],
     answer: RayAnswer,
     grounded: u8,
+    d: Directions,
 )
     requires { ⌜ (length (now table) ≡ at.SIZE) × (i < at.WHEELS) × (namedOf answer ≤ length (now dynamic)) × Grounds (now bodies) (now dynamic) ⌝ }
     ensures { λ _. ⌜ now (table .exit) ≡ putWheel (now (table .entry)) i (demandOf binary32 stored dt chassis (now (bodies .entry)) (now (dynamic .entry)) answer grounded d (wheelAt (now (table .entry)) i)) ⌝ }
@@ -118,13 +118,13 @@ fn friction_wheel(
 pub fn friction_pass(
     table: &mut [f32],
     n: usize,
-    directions: [Directions; WHEELS],
     dt: f32,
-    chassis: Body,
     bodies: &[f32],
     dynamic: &[bool],
     answers: [RayAnswer; WHEELS],
+    chassis: Body,
     grounded: u8,
+    directions: [Directions; WHEELS],
 )
     requires { ⌜ (length (now table) ≡ at.SIZE) × (n ≤ at.WHEELS) × Listed (now bodies) (now dynamic) (answerAt answers) n ⌝ }
     ensures { λ _. ⌜ now (table .exit) ≡ demands binary32 stored (frame dt (now (bodies .entry)) (now (dynamic .entry)) (answerAt answers)) chassis grounded (directionsAt directions) n (now (table .entry)) ⌝ }
@@ -133,13 +133,13 @@ pub fn friction_pass(
     while i < n {
         let a = answers[i];
         let d = directions[i];
-        friction_wheel(table, i, d, dt, chassis, bodies, dynamic, a, grounded);
+        friction_wheel(table, i, dt, chassis, bodies, dynamic, a, grounded, d);
         i += 1usize;
     }
 }
 
 // Rule 10.
-fn spin_wheel(table: &mut [f32], i: usize, dt: f32, chassis: Body, contact: bool)
+fn spin_wheel(table: &mut [f32], i: usize, dt: f32, contact: bool, chassis: Body)
     requires { ⌜ (length (now table) ≡ at.SIZE) × (i < at.WHEELS) ⌝ }
     ensures { λ _. ⌜ now (table .exit) ≡ putWheel (now (table .entry)) i (updateRotation binary32 dt contact chassis (wheelAt (now (table .entry)) i)) ⌝ }
 {
@@ -156,7 +156,7 @@ pub fn spin_pass(table: &mut [f32], n: usize, dt: f32, chassis: Body, answers: [
     let mut i = 0usize;
     while i < n {
         let a = answers[i];
-        spin_wheel(table, i, dt, chassis, wheel::ray::is_grounded(a));
+        spin_wheel(table, i, dt, wheel::ray::is_grounded(a), chassis);
         i += 1usize;
     }
 }

@@ -81,7 +81,7 @@ reach f (inf s) c = c
 reach f (fin s m e) c = min (count f (fin s m e)) c
 
 module _ {f : Format} {b : Float} {c : ℕ} (B : Signed f b false c) where
-  clamp-finite-signed : {v : Float} {s : Bool} {a : ℕ} → Signed f v s a → Signed f (clampOf (neg b) b v) s (min a c)
+  clamp-finite-signed : {v : Float} {s : Bool} {a : ℕ} → Signed f v s a → Signed f (clampOf v (neg b) b) s (min a c)
   unfolding clampOf raisedOf loweredOf
   clamp-finite-signed {v} {s = true} h =
       let z = smaller (lt v (neg b)) (neg-signed B) h (lt-signed h (neg-signed B)) in
@@ -89,22 +89,22 @@ module _ {f : Format} {b : Float} {c : ℕ} (B : Signed f b false c) where
   clamp-finite-signed {v} {s = false} h = rw (lt-signed h (neg-signed B)) (smaller (lt b v) B h (lt-signed B h))
 
   -- an infinity is clamped to the bound
-  clamp-infinite-signed : (s : Bool) → Signed f (clampOf (neg b) b (inf s)) s c
+  clamp-infinite-signed : (s : Bool) → Signed f (clampOf (inf s) (neg b) b) s c
   unfolding clampOf raisedOf loweredOf
   clamp-infinite-signed true = rw (beyond true (neg b) (finite-of (neg-signed B .counted)) .0, lt-signed B (neg-signed B)) (neg-signed B)
   clamp-infinite-signed false = rw (beyond false (neg b) (finite-of (neg-signed B .counted)) .0, beyond false b (finite-of (B .counted)) .1) B
 
-  pub clamp-signed : (v : Float) → T (fits f v) → T (not (isNan v)) → Signed f (clampOf (neg b) b v) (minus? v) (reach f v c)
+  pub clamp-signed : (v : Float) → T (fits f v) → T (not (isNan v)) → Signed f (clampOf v (neg b) b) (minus? v) (reach f v c)
   unfolding isNan
   clamp-signed nan g n = absurd n
   clamp-signed (inf s) g n = clamp-infinite-signed s
   clamp-signed (fin s m e) g n = clamp-finite-signed (own-signed (own-count f (fin s m e) g tt))
 
   module _ (v : Float) (g : T (fits f v)) (n : T (not (isNan v))) where
-    pub clamp-count : count f (clampOf (neg b) b v) ≡ reach f v c
+    pub clamp-count : count f (clampOf v (neg b) b) ≡ reach f v c
     clamp-count = count-of (clamp-signed v g n .counted)
 
-    pub clamp-le : count f (clampOf (neg b) b v) ≤ c
+    pub clamp-le : count f (clampOf v (neg b) b) ≤ c
     clamp-le = le-trans (le-of-eq clamp-count) (no-more v)
       where
         no-more : (v : Float) → reach f v c ≤ c
@@ -112,17 +112,17 @@ module _ {f : Format} {b : Float} {c : ℕ} (B : Signed f b false c) where
         no-more (inf s) = le-refl c
         no-more (fin s m e) = min-le-right (count f (fin s m e)) c
 
-    pub clamp-sign : 0 < count f (clampOf (neg b) b v) → minus? (clampOf (neg b) b v) ≡ minus? v
+    pub clamp-sign : 0 < count f (clampOf v (neg b) b) → minus? (clampOf v (neg b) b) ≡ minus? v
     clamp-sign y = let z = clamp-signed v g n in sign-of (z .counted) ∙ z .kept (subst (λ (u : ℕ). 0 < u) clamp-count y)
 
-    pub clamp-finite : T (finite (clampOf (neg b) b v))
+    pub clamp-finite : T (finite (clampOf v (neg b) b))
     clamp-finite = finite-of (clamp-signed v g n .counted)
 
-pub clamp-fits : (f : Format) (lo hi v : Float) → T (fits f lo) → T (fits f hi) → T (fits f v) → T (fits f (clampOf lo hi v))
+pub clamp-fits : (f : Format) (lo hi v : Float) → T (fits f lo) → T (fits f hi) → T (fits f v) → T (fits f (clampOf v lo hi))
 unfolding clampOf raisedOf loweredOf
 clamp-fits f lo hi v l h g = cond-fits f (lt hi (raisedOf lo v)) hi (raisedOf lo v) h (cond-fits f (lt v lo) lo v l g)
 
-pub clamp-mono : {f : Format} {b b' : Float} {c c' : ℕ} → Signed f b false c → Signed f b' false c' → c ≤ c' → (v : Float) → T (fits f v) → T (not (isNan v)) → count f (clampOf (neg b) b v) ≤ count f (clampOf (neg b') b' v)
+pub clamp-mono : {f : Format} {b b' : Float} {c c' : ℕ} → Signed f b false c → Signed f b' false c' → c ≤ c' → (v : Float) → T (fits f v) → T (not (isNan v)) → count f (clampOf v (neg b) b) ≤ count f (clampOf v (neg b') b')
 clamp-mono {f} {c = c} {c'} B B' h v g n = rw (clamp-count B v g n, clamp-count B' v g n) (more v)
   where
     more : (v : Float) → reach f v c ≤ reach f v c'
@@ -133,7 +133,7 @@ clamp-mono {f} {c = c} {c'} B B' h v g n = rw (clamp-count B v g n, clamp-count 
         min-mono : (a : ℕ) → min a c ≤ min a c'
         min-mono a = omega arith
 
-pub not-nan-of-clamp : (lo hi v : Float) → T (finite (clampOf lo hi v)) → T (not (isNan v))
+pub not-nan-of-clamp : (lo hi v : Float) → T (finite (clampOf v lo hi)) → T (not (isNan v))
 unfolding clampOf raisedOf loweredOf lt isNan
 not-nan-of-clamp lo nan nan t = absurd t
 not-nan-of-clamp lo (inf s) nan t = absurd t

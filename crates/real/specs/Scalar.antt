@@ -19,7 +19,7 @@ unfoldable pub loweredOf : Float → Float → Float
 loweredOf hi x = cond (lt hi x) hi x
 
 unfoldable pub clampOf : Float → Float → Float → Float
-clampOf lo hi x = loweredOf hi (raisedOf lo x)
+clampOf x lo hi = loweredOf hi (raisedOf lo x)
 
 -- not below 0 (NaN gives 0)
 unfoldable pub notBelowZero : Float → Float

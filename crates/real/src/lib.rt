@@ -33,7 +33,7 @@ fn lowered(hi: f32, x: f32) -> f32
 
 // Rust's `x.clamp(lo, hi)` with no panic: x raised to lo, and then lowered to hi, which decides where lo is above it. A NaN stays.
 pub fn clamp(x: f32, lo: f32, hi: f32) -> f32
-    ensures { λ r. ⌜ r ≡ clampOf lo hi x ⌝ }
+    ensures { λ r. ⌜ r ≡ clampOf x lo hi ⌝ }
 {
     lowered(hi, raised(lo, x))
 }

@@ -36,7 +36,7 @@ rescaledOf f d = record { forward = rescaledBy f (d .skid) (d .forward); side = 
 
 -- rule 7: clamped to ± brake
 unfoldable pub brakedOf : Float → Float → Float
-brakedOf brake x = clampOf (neg brake) brake x
+brakedOf brake x = clampOf x (neg brake) brake
 
 -- rule 6: the grip limit uses the uncut force: force × dt × slip
 unfoldable pub limitOf : Format → Float → Float → Float → Float

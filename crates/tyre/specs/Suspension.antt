@@ -8,7 +8,7 @@ use Rattle.tyre.specs.declared.Approach.{Approach}
 
 -- Rule 4. Length = time × (rest + radius) − radius, clamped to rest − travel and rest + travel as computed.
 unfoldable pub suspensionLength : Format → Float → Float → Float → Float → Float
-suspensionLength f rest travel radius time = clampOf (sub f rest travel) (add f rest travel) (sub f (mul f time (add f rest radius)) radius)
+suspensionLength f rest travel radius time = clampOf (sub f (mul f time (add f rest radius)) radius) (sub f rest travel) (add f rest travel)
 
 -- the 0.1 of rule 4
 abbrev pub clip : Format → Float

@@ -11,11 +11,11 @@ use Rattle.passes.proofs.rows.friction_pass.Statement.{statement}
 use Rattle.passes.proofs.rows.friction_pass.Tie as tie
 
 abbrev Inv-loop : tie.InvT-loop
-Inv-loop table₀ n dt chassis bodies dynamic grounded directions answers i₀ table i =
+Inv-loop table₀ n dt bodies dynamic chassis grounded answers directions i₀ table i =
     Passing (demandAt binary32 stored (frame dt bodies dynamic (answerAt answers)) chassis grounded (directionsAt directions)) n table₀ i table
 
 abbrev μ-loop : tie.MeasureT-loop
-μ-loop table₀ n dt chassis bodies dynamic grounded directions answers i₀ table i = n - i
+μ-loop table₀ n dt bodies dynamic chassis grounded answers directions i₀ table i = n - i
 
 -- the wheel's answer names a listed body
 friction-wheel-requires : tie.Need-friction-wheel-requires Inv-loop μ-loop
