@@ -34,6 +34,3 @@ pub const UPWARD: usize = NORMAL + 3;
 pub const HIT_UP_BODY: usize = UPWARD + 3;
 
 pub const HIT_UP_WORDS: usize = 1 + code::HIT_UP_FLOATS as usize + 1;
-
-// Where the answers start at the latest: behind every body.
-pub const LAST_ANSWERS: usize = BODIES + (code::BODIES as usize) * BODY_WORDS + 1;

@@ -110,6 +110,3 @@ CODE-WORDS = 1 + STEP-FLOATS + BODIES-WORDS
 -- as many bytes as it has where each word is as wide as a float, and no whole number is wider
 abbrev pub codeBytes : Widths → ℕ
 codeBytes widths = CODE-WORDS * (last (widths .float) + 1)
-
-abbrev pub CODE-BYTES : ℕ
-CODE-BYTES = codeBytes WIDTHS

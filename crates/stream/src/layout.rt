@@ -52,7 +52,7 @@ pub const HIT_UP: u32 = 2;
 
 pub const HIT_UP_FLOATS: u32 = 7;
 
-// The longest code: a drive of every body, and every answer with its upward normal. Its bytes are counted as if each word were a float.
+// The longest code: a drive of every body, and every answer with its upward normal.
 pub const ANSWER_WORDS: u32 = 1 + HIT_UP_FLOATS + 1;
 
 pub const ANSWERS_WORDS: u32 = 1 + ANSWERS * ANSWER_WORDS;
@@ -60,5 +60,3 @@ pub const ANSWERS_WORDS: u32 = 1 + ANSWERS * ANSWER_WORDS;
 pub const BODIES_WORDS: u32 = 1 + BODIES * (BODY_FLOATS + 1) + ANSWERS_WORDS;
 
 pub const CODE_WORDS: usize = (1 + STEP_FLOATS + BODIES_WORDS) as usize;
-
-pub const CODE_BYTES: usize = CODE_WORDS * (FLOAT_BITS / GROUP_BITS + 1) as usize;
