@@ -17,8 +17,8 @@ returns-3 : tie.Need-returns-3
 unfolding flatAim
 returns-3 c =
     let put = c .before .before in
-    let at-place = put .before .before .before .before in
-    let call = at-place .before .before in
+    let after-table = put .before .before .before .before in
+    let call = after-table .before .before in
     let chassis = call .before .before .before in
     settled-of-length _ _ _ _ _ _ _ _ (chassis .before .before .if1 .left)
     (settled-of-length _ _ _ _ _ _ _ _ (chassis .before .if2 .left)

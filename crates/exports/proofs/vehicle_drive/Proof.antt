@@ -25,8 +25,8 @@ returns-3 : tie.Need-returns-3
 unfolding flatDrive
 returns-3 c =
     let put = c .before .before in
-    let at-place = put .before .before .before .before in
-    let call = at-place .before .before in
+    let after-table = put .before .before .before .before in
+    let call = after-table .before .before in
     let test = call .before .before .before .before in
     settled-of-length _ _ _ _ _ _ _ _ (test .before .before .before .if1 .left)
     (settled-done _ _ _ _ _ _ _ (test .refuse-lists .ensures) (call .before .before .before .if2 .left) (flattened-of-call _ _ _ _ _ _ _ _ (call .drive-lists .ensures) (put .put-driven .ensures)))

@@ -43,8 +43,8 @@ loop-less c = search needs
 loop-again : tie.Need-loop-again Inv-loop μ-loop
 loop-again c =
     let second = c .before .before in
-    let at-place = second .before .before .before .before in
-    let first = at-place .before in
+    let at-out = second .before .before .before .before in
+    let first = at-out .before in
     let at = first .before .before .before in
     one-listed (at .loop .inv) (at .before .before .before .pre) (first .before .before .loop-test .taken) _ _ _ _ (first .put .kept .1 .0) (second .put-digits .kept .1 .1 .1 .0)
     (first .put .ensures) (second .put-digits .ensures)

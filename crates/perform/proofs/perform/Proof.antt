@@ -13,8 +13,8 @@ use Rattle.perform.proofs.perform.Tie as tie
 
 abbrev start : tie.After-asked → tie.Start
 start c =
-    let at-place = c .before .before .before .before in
-    at-place .before .before
+    let after-start = c .before .before .before .before in
+    after-start .before .before
 
 -- what the words ask for is what was found to be asked
 asks : (c : tie.After-asked) (a : Asked) → c .asked .result ≡ a → asked (numberFrom (start c .args .words .now) 0) ≡ a
@@ -53,16 +53,16 @@ returns-3 c =
 returns-4 : tie.Need-returns-4
 unfolding callOf callFor
 returns-4 c =
-    let at-place = c .before .before .before .before in
-    let call = at-place .before .before in
+    let after-table3 = c .before .before .before .before in
+    let call = after-table3 .before .before in
     let arm = call .before .before .before .before in
     rw (asks (arm .before .before) _ (arm .enum-told4 .given .1)) (call .call-aim .ensures)
 
 returns-5 : tie.Need-returns-5
 unfolding callOf callFor
 returns-5 c =
-    let at-place = c .before .before .before .before in
-    let call = at-place .before .before in
+    let after-table4 = c .before .before .before .before in
+    let call = after-table4 .before .before in
     let arm = call .before .before .before .before in
     rw (asks (arm .before .before) _ (arm .enum-told5 .given .1)) (call .call-drive .ensures)
 

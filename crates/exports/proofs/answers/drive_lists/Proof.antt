@@ -30,8 +30,8 @@ part-drive-end c =
 returns : tie.Need-returns
 returns c =
     let call = c .before .before .before .before in
-    let at-place = call .before .before .before .before in
-    let answers = at-place .before in
+    let after-decode-answers = call .before .before .before .before in
+    let answers = after-decode-answers .before in
     let flags = answers .before in
     let after-start = flags .before .before .before .before in
     let a = after-start .before .before .before .before .args in

@@ -29,16 +29,16 @@ aimed c = rw (decoded c .chassis-from .ensures) at (c .aim .ensures)
 
 abbrev from-accepted : tie.Else1 → tie.After-aim
 from-accepted c =
-    let at-place = c .before .before .before .before in
-    at-place .before
+    let at-table = c .before .before .before .before in
+    at-table .before
 
 room : (c : tie.Else1) → countOf (start (from-accepted c) .args .whole .now) ≤ at.WHEELS
 room c = accepted-aim-says format _ _ _ (aimed (from-accepted c)) (c .if1 .left) .shape .room
 
 returns : tie.Need-returns
 returns c =
-    let at-place = c .before .before .before .before in
-    let call = at-place .before in
+    let at-table = c .before .before .before .before in
+    let call = at-table .before in
     let m = start call .args .whole .now in
     told-refused _ (aimResults format (countOf m)) (call .aim .result) _ _ _ (aimed call) _ (c .if1 .taken)
 

@@ -8,16 +8,16 @@ use Rattle.perform.proofs.frames.call_drive.Tie as tie
 
 returns : tie.Need-returns
 returns c =
-    let at-place = c .before .before .before .before in
-    let call = at-place .before in
+    let at-table = c .before .before .before .before in
+    let call = at-table .before in
     told-refused _ (driveResults format) (call .drive-frame .result) _ _ _ (call .drive-frame .ensures) _ (c .if1 .taken)
 
 returns-2 : tie.Need-returns-2
 returns-2 c =
     let put = c .before .before in
     let accepted = put .before .before in
-    let at-place = accepted .before .before .before .before in
-    let call = at-place .before in
+    let at-table = accepted .before .before .before .before in
+    let call = at-table .before in
     told-accepted _ (driveResults format) (call .drive-frame .result) _ _ _ (call .drive-frame .ensures) _ _ _ (accepted .if1 .left) (put .put-driven .ensures)
 
 pub call-drive-spec : {M : Type 1} → statement M

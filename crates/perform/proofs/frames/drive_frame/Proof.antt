@@ -17,8 +17,8 @@ returns : tie.Need-returns
 unfolding frameFrom
 returns c =
     let call = c .before .before .before .before in
-    let at-place = call .before .before .before .before in
-    let flags = at-place .before .before in
+    let after-flags2 = call .before .before .before .before in
+    let flags = after-flags2 .before .before in
     let bodies = flags .before .before .before in
     let count = bodies .before .before in
     rw (

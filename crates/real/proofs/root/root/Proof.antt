@@ -42,8 +42,8 @@ positive-requires c κs = is-positive binary32 (bits (c .before .before .before 
 
 returns-5 : tie.Need-returns-5
 returns-5 c =
-    let at-place = c .before .before .before .before in
-    read (at-place .before) _ (c .positive .ensures)
+    let at-if1 = c .before .before .before .before in
+    read (at-if1 .before) _ (c .positive .ensures)
 
 pub root-spec : {M : Type 1} → statement M
 root-spec = tie.close (tie.spec returns float-to-bits-bits returns-2 returns-3 returns-4 positive-requires returns-5)

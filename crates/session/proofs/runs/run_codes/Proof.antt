@@ -16,8 +16,8 @@ abbrev μ-loop : tie.MeasureT-loop
 -- the loop's place before a code is taken
 abbrev from-loop : tie.After-take-code Inv-loop μ-loop → tie.At-loop Inv-loop μ-loop
 from-loop c =
-    let at-place = c .before .before .before .before in
-    at-place .before .before
+    let after-if1 = c .before .before .before .before in
+    after-if1 .before .before
 
 loop-holds : tie.Need-loop-holds Inv-loop μ-loop
 loop-holds c = none-run _ _ _ _ _ (c .before .before .before .before .pre .0) (c .before .before .before .before .pre .1)
@@ -36,15 +36,15 @@ take-code-requires c κs =
 
 -- a code takes a byte at least, and no more than are left
 took : (c : tie.After-known-told Inv-loop μ-loop) →
-    let at-place = c .before .before .before .before in
-    let at-place-2 = at-place .before .before .before .before in
-    let at = from-loop (at-place-2 .before) in
+    let at-out = c .before .before .before .before in
+    let at-table = at-out .before .before .before .before in
+    let at = from-loop (at-table .before) in
     let after-start = at .before .before .before .before in
     (0 < c .before .next .given .0 .0) × (at .loop .taken + c .before .next .given .0 .0 ≤ length (after-start .before .args .bytes .now))
 took c =
-    let at-place = c .before .before .before .before in
-    let at-place-2 = at-place .before .before .before .before in
-    let call = at-place-2 .before in
+    let at-out = c .before .before .before .before in
+    let at-table = at-out .before .before .before .before in
+    let call = at-table .before in
     let after-if1 = call .before .before .before .before in
     next-within (from-loop call .loop .inv) (after-if1 .before .if1 .left) (call .take-code .kept .1 .1 .1 .1 .0) (call .take-code .ensures) _ (c .before .next .given .1)
 
@@ -56,9 +56,9 @@ loop-less c = omega (arith, took c .0, took c .1)
 
 loop-again : tie.Need-loop-again Inv-loop μ-loop
 loop-again c =
-    let at-place = c .before .before .before .before in
-    let at-place-2 = at-place .before .before .before .before in
-    let call = at-place-2 .before in
+    let at-out = c .before .before .before .before in
+    let at-table = at-out .before .before .before .before in
+    let call = at-table .before in
     let after-if1 = call .before .before .before .before in
     one-run (from-loop call .loop .inv) (after-if1 .before .if1 .left) (call .take-code .kept .1 .1 .1 .1 .0) (call .take-code .ensures) _ (c .before .next .given .1)
     (call .take-code .kept .1 .1 .0) (call .take-code .kept .1 .1 .1 .0)
@@ -68,15 +68,15 @@ returns c = stands-full (c .before .loop .inv) (c .if1 .taken)
 
 returns-2 : tie.Need-returns-2 Inv-loop μ-loop
 returns-2 c =
-    let at-place = c .before .before .before .before in
-    let call = at-place .before .before .before .before in
+    let after-whole = c .before .before .before .before in
+    let call = after-whole .before .before .before .before in
     let after-if1 = call .before .before .before .before in
     stands-ended (from-loop call .loop .inv) (after-if1 .before .if1 .left) (call .take-code .kept .1 .1 .1 .1 .0) (call .take-code .ensures) (c .enum-told .given .1)
 
 returns-3 : tie.Need-returns-3 Inv-loop μ-loop
 returns-3 c =
-    let at-place = c .before .before .before .before in
-    let call = at-place .before .before .before .before in
+    let after-whole = c .before .before .before .before in
+    let call = after-whole .before .before .before .before in
     let after-if1 = call .before .before .before .before in
     stands-more (from-loop call .loop .inv) (after-if1 .before .if1 .left) (call .take-code .kept .1 .1 .1 .1 .0) (call .take-code .ensures) (c .enum-told2 .given .1)
 

@@ -6,17 +6,17 @@ use Rattle.session.proofs.turns.take_code.Tie as tie
 
 make-call-requires : tie.Need-make-call-requires
 make-call-requires c κs =
-    let at-place = c .before .before .before .before in
-    let told = at-place .before in
+    let after-code = c .before .before .before .before in
+    let told = after-code .before in
     let read = told .before .before in
     (search needs, search needs, search needs, words-counted (read .read-code .ensures) _ _ (told .code .given .1))
 
 returns : tie.Need-returns
 returns c =
-    let at-place = c .before .before .before .before in
-    let call = at-place .before .before in
-    let at-place-2 = call .before .before .before .before in
-    let told = at-place-2 .before .before in
+    let after-table = c .before .before .before .before in
+    let call = after-table .before .before in
+    let at-words2 = call .before .before .before .before in
+    let told = at-words2 .before .before in
     let read = told .before .before in
     takes-whole (read .read-code .ensures) _ _ _ _ (told .code .given .1) (call .make-call .ensures)
 

@@ -9,8 +9,8 @@ use Rattle.session.proofs.window.step.Tie as tie
 
 returns : tie.Need-returns
 returns c =
-    let at-place = c .before .before .before .before in
-    let start = at-place .before in
+    let after-start = c .before .before .before .before in
+    let start = after-start .before in
     let window : length (start .args .window .now) ≡ WINDOW-BYTES = search needs in
     let text : length (start .args .out .now) ≡ TEXT-BYTES = search needs in
     let made = c .step-over .ensures in

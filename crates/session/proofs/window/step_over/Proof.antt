@@ -13,21 +13,21 @@ slice-aggregate-run-codes c =
 
 shift-requires : tie.Need-shift-requires
 shift-requires c κs =
-    let at-place = c .before .before .before .before in
-    let run = at-place .before .before .before in
-    let at-place-2 = run .before .before .before .before in
-    let at-place-3 = at-place-2 .before .before .before .before in
-    let start = at-place-3 .before in
+    let at-whole = c .before .before .before .before in
+    let run = at-whole .before .before .before in
+    let at-run-codes-arg = run .before .before .before .before in
+    let after-start = at-run-codes-arg .before .before .before .before in
+    let start = after-start .before in
     (took-within _ _ _ _ _ (run .run-codes .ensures) (start .pre .0), start .pre .0)
 
 returns : tie.Need-returns
 returns c =
     let at-shift = c .before .before in
-    let at-place = at-shift .before .before .before .before in
-    let run = at-place .before .before .before .before in
-    let at-place-2 = run .before .before .before .before in
-    let at-place-3 = at-place-2 .before .before .before .before in
-    let start = at-place-3 .before in
+    let after-whole = at-shift .before .before .before .before in
+    let run = after-whole .before .before .before .before in
+    let at-run-codes-arg = run .before .before .before .before in
+    let after-start = at-run-codes-arg .before .before .before .before in
+    let start = after-start .before in
     step-made _ _ _ _ _ (run .run-codes .ensures) (start .pre .0) (at-shift .shift .ensures) (at-shift .shift .kept .0) (run .run-codes .kept .1 .1 .1 .1 .0)
 
 pub step-over-spec : {M : Type 1} → statement M

@@ -59,8 +59,8 @@ add-taken c =
 
 loop-less : tie.Need-loop-less Inv-loop μ-loop
 loop-less c =
-    let at-place = c .before .before .before .before in
-    let word = at-place .before in
+    let after-number = c .before .before .before .before in
+    let word = after-number .before in
     omega (arith, has-room (turn (word .before .before) .loop .inv))
 
 loop-again : tie.Need-loop-again Inv-loop μ-loop
@@ -73,8 +73,8 @@ loop-again c =
 
 shown-requires : tie.Need-shown-requires Inv-loop μ-loop
 shown-requires c κs =
-    let at-place = c .before .before .before .before in
-    let word = at-place .before .before in
+    let at-next = c .before .before .before .before in
+    let word = at-next .before .before in
     simp length-set (turn (word .before .before) .loop .inv .sized)
 
 shown-requires-2 : tie.Need-shown-requires-2 Inv-loop μ-loop

@@ -33,18 +33,18 @@ put-wheel-requires c κs = let r = tested (c .before .before .before) in omega a
 
 add-whole : tie.Need-add-whole
 add-whole c =
-    let at-place = c .before .before .before .before in
-    let r = tested (at-place .before .before) in omega arith
+    let after-if1 = c .before .before .before .before in
+    let r = tested (after-if1 .before .before) in omega arith
 
 slice-write-whole : tie.Need-slice-write-whole
 slice-write-whole c =
-    let at-place = c .before .before .before .before in
-    let r = tested (at-place .before .before) in omega arith
+    let after-if1 = c .before .before .before .before in
+    let r = tested (after-if1 .before .before) in omega arith
 
 slice-write-whole-2 : tie.Need-slice-write-whole-2
 slice-write-whole-2 c =
-    let at-place = c .before .before .before .before in
-    let l = place (at-place .before .before) at.MARK (omega arith) in search needs
+    let after-if1 = c .before .before .before .before in
+    let l = place (after-if1 .before .before) at.MARK (omega arith) in search needs
 
 returns-2 : tie.Need-returns-2
 unfolding addWheel

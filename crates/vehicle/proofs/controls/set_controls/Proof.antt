@@ -23,15 +23,15 @@ put-controls-requires c κs = let r = tested (c .before) in omega arith
 
 slice-read-if2 : tie.Need-slice-read-if2
 slice-read-if2 c =
-    let at-place = c .before .before .before .before in
-    let accepted = at-place .before in
+    let after-if1 = c .before .before .before .before in
+    let accepted = after-if1 .before in
     let r = tested accepted in
     omega arith
 
 slice-write-whole : tie.Need-slice-write-whole
 slice-write-whole c =
-    let at-place = c .before .before .before .before in
-    let accepted = at-place .before .before in
+    let at-put-controls = c .before .before .before .before in
+    let accepted = at-put-controls .before .before in
     let r = tested accepted in
     omega arith
 

@@ -41,23 +41,23 @@ copy-requires c κs = let s = tested (c .before .before) .sizes in omega arith
 
 slice-write-whole : tie.Need-slice-write-whole
 slice-write-whole c =
-    let at-place = c .before .before .before .before in
-    let s = tested (at-place .before) .sizes in omega arith
+    let after-if1 = c .before .before .before .before in
+    let s = tested (after-if1 .before) .sizes in omega arith
 
 slice-write-whole-2 : tie.Need-slice-write-whole-2
 slice-write-whole-2 c =
-    let at-place = c .before .before .before .before in
-    let l = place (at-place .before) at.MARK (omega arith) in search needs
+    let after-if1 = c .before .before .before .before in
+    let l = place (after-if1 .before) at.MARK (omega arith) in search needs
 
 slice-write-whole-3 : tie.Need-slice-write-whole-3
 slice-write-whole-3 c =
-    let at-place = c .before .before .before .before in
-    let l = place (at-place .before) at.UP (omega arith) in search needs
+    let after-if1 = c .before .before .before .before in
+    let l = place (after-if1 .before) at.UP (omega arith) in search needs
 
 slice-write-whole-4 : tie.Need-slice-write-whole-4
 slice-write-whole-4 c =
-    let at-place = c .before .before .before .before in
-    let l = place (at-place .before) at.FORWARD (omega arith) in search needs
+    let after-if1 = c .before .before .before .before in
+    let l = place (after-if1 .before) at.FORWARD (omega arith) in search needs
 
 returns-2 : tie.Need-returns-2
 unfolding setUp ofBits
