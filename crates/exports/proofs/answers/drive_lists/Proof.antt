@@ -22,9 +22,9 @@ decode-answers-requires c κs =
 
 part-drive-end : tie.Need-part-drive-end
 part-drive-end c =
-    let after-start = c .before .before .before .before in
-    let after-start-2 = after-start .before .before .before .before in
-    let h = lists-say _ _ _ _ (after-start-2 .before .before .before .before .pre) in
+    let at-decode-flags = c .before .before .before .before in
+    let after-start = at-decode-flags .before .before .before .before in
+    let h = lists-say _ _ _ _ (after-start .before .before .before .before .pre) in
     search needs
 
 returns : tie.Need-returns
