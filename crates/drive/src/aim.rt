@@ -100,7 +100,7 @@ fn refuse_chassis(table: &[f32], whole: &[u32], c: Chassis) -> u32
 }
 
 // The table with the chassis kept and the first n wheels under its pose.
-fn place(table: &mut [f32], n: usize, c: Chassis)
+fn aimed_table(table: &mut [f32], n: usize, c: Chassis)
     requires { ⌜ (length (now table) ≡ at.SIZE) × (n ≤ at.WHEELS) ⌝ }
     ensures { λ _. ⌜ now (table .exit) ≡ aimedTable binary32 c n (now (table .entry)) ⌝ }
 {
@@ -125,7 +125,7 @@ pub fn aim(table: &mut [f32], whole: &mut [u32], c: Chassis) -> Aimed
     let forward = whole[FORWARD];
     let mut work = [0.0; SIZE];
     table::rows::copy(&mut work, &table[..]);
-    place(&mut work, n, c);
+    aimed_table(&mut work, n, c);
     if !table::bounds::stored_within(&work, n) {
         return not_aimed(8);
     }

@@ -32,9 +32,9 @@ pub fn demand_step(
     passes::rows::cast_pass(table, n, b, answers);
     passes::rows::suspension_pass(table, n, b.invmass, answers);
     let c = passes::chassis::spring_pass(&table[..], n, dt, kept);
-    let grounded = passes::frame::count_grounded(answers, n);
+    let grounded = passes::frame::grounded_wheels(answers, n);
     let directions = passes::chassis::directions_in(&table[..], n);
-    passes::rows::friction_pass(
+    passes::rows::demand_pass(
         table,
         n,
         dt,

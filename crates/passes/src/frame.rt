@@ -11,7 +11,7 @@ ghost use Rattle.wheel.specs.Ray.{answerAt, namedOf};
 ghost use Rattle.passes.specs.Frame.{groundedWheels, groundNamed, groundUnder, Grounds};
 
 // How many of the first n wheels are grounded.
-pub fn count_grounded(answers: [RayAnswer; WHEELS], n: usize) -> u8
+pub fn grounded_wheels(answers: [RayAnswer; WHEELS], n: usize) -> u8
     requires { ⌜ n ≤ at.WHEELS ⌝ }
     ensures { λ r. ⌜ r ≡ groundedWheels (answerAt answers) n ⌝ }
 {

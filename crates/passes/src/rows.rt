@@ -85,7 +85,7 @@ pub fn suspension_pass(table: &mut [f32], n: usize, invmass: f32, answers: [RayA
 }
 
 // Rule 7, and rule 8 before the rescale, with the wheel's directions and its answer. `grounded` is the number of grounded wheels.
-fn friction_wheel(
+fn demand_wheel(
     table: &mut [f32],
     i: usize,
     dt: f32,
@@ -115,7 +115,7 @@ fn friction_wheel(
     table::rows::put_friction(table, i, friction);
 }
 
-pub fn friction_pass(
+pub fn demand_pass(
     table: &mut [f32],
     n: usize,
     dt: f32,
@@ -133,7 +133,7 @@ pub fn friction_pass(
     while i < n {
         let a = answers[i];
         let d = directions[i];
-        friction_wheel(table, i, dt, chassis, bodies, dynamic, a, grounded, d);
+        demand_wheel(table, i, dt, chassis, bodies, dynamic, a, grounded, d);
         i += 1usize;
     }
 }

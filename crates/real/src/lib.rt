@@ -19,13 +19,13 @@ pub fn is_usable(r: f32) -> bool
     r > 0.0 && r < f32::from_bits(0x7f80_0000)
 }
 
-fn raised(lo: f32, x: f32) -> f32
+fn raised_of(lo: f32, x: f32) -> f32
     ensures { λ r. ⌜ r ≡ raisedOf lo x ⌝ }
 {
     if x < lo { lo } else { x }
 }
 
-fn lowered(hi: f32, x: f32) -> f32
+fn lowered_of(hi: f32, x: f32) -> f32
     ensures { λ r. ⌜ r ≡ loweredOf hi x ⌝ }
 {
     if x > hi { hi } else { x }
@@ -35,7 +35,7 @@ fn lowered(hi: f32, x: f32) -> f32
 pub fn clamp(x: f32, lo: f32, hi: f32) -> f32
     ensures { λ r. ⌜ r ≡ clampOf x lo hi ⌝ }
 {
-    lowered(hi, raised(lo, x))
+    lowered_of(hi, raised_of(lo, x))
 }
 
 // Not below 0; a NaN gives 0.

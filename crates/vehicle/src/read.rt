@@ -47,7 +47,7 @@ fn not_read(number: u32) -> Reading
     }
 }
 
-fn reading(w: Wheel) -> Reading
+fn reading_of(w: Wheel) -> Reading
     ensures { λ r. ⌜ r ≡ readingOf w ⌝ }
 {
     let p = w.place;
@@ -81,7 +81,7 @@ pub fn read_wheel(table: &[f32], whole: &[u32], wheel: u32) -> Reading
     if number != 0 {
         return not_read(number);
     }
-    reading(table::rows::get_wheel(table, wheel as usize))
+    reading_of(table::rows::get_wheel(table, wheel as usize))
 }
 
 // The results of a read, in the order of docs/STREAM.md.

@@ -5,7 +5,7 @@ use Rattle.real.proofs.clamp.Tie as tie
 
 returns : tie.Need-returns
 unfolding clampOf
-returns c = rw (← c .before .raised .ensures, ← c .lowered .ensures)
+returns c = rw (← c .before .raised-of .ensures, ← c .lowered-of .ensures)
 
 pub clamp-spec : {M : Type 1} → statement M
 clamp-spec = tie.close (tie.spec (λ c κs. tt) (λ c κs. tt) returns)

@@ -38,17 +38,17 @@ shape : (c : tie.Else1) → Shape (table c) (whole c)
 shape c = chassis-tests-say binary32 _ _ _ (passed c) .shape
 
 -- ---- once the copy is worked on
-abbrev started : tie.After-place → tie.Else1
+abbrev started : tie.After-aimed-table → tie.Else1
 started c =
     let at-copy = c .before .before .before in
     let at-work = at-copy .before .before in
     at-work .before .before .before
 
-abbrev aimed : tie.After-place → List Float
+abbrev aimed : tie.After-aimed-table → List Float
 aimed c = let s = started c in aimedTable binary32 (chassis s) (countOf (whole s)) (table s)
 
-placed : (c : tie.After-place) → c .place .last .0 ≡ aimed c
-placed c = c .place .ensures ∙ ap (aimedTable binary32 _ _) (c .before .before .before .copy .ensures)
+placed : (c : tie.After-aimed-table) → c .aimed-table .last .0 ≡ aimed c
+placed c = c .aimed-table .ensures ∙ ap (aimedTable binary32 _ _) (c .before .before .before .copy .ensures)
 
 returns : tie.Need-returns
 returns c = aim-refused _ _ _ _ _ _ (c .before .before .refuse-chassis .ensures) (c .before .if1 .taken) (c .not-aimed .ensures)
@@ -65,8 +65,8 @@ slice-read-forward c = let s = shape (c .before .before) in omega arith
 copy-requires : tie.Need-copy-requires
 copy-requires c κs = let s = shape (c .before .before .before .before) in search needs
 
-place-requires : tie.Need-place-requires
-place-requires c κs =
+aimed-table-requires : tie.Need-aimed-table-requires
+aimed-table-requires c κs =
     let at-work = c .before .before .before .before in
     let s = shape (at-work .before .before .before) in search needs
 
@@ -121,7 +121,7 @@ aim-spec =
     (λ c. search needs)
     copy-requires
     (λ c. search needs)
-    place-requires
+    aimed-table-requires
     (λ c. search needs)
     stored-within-requires
     (λ c κs. tt)

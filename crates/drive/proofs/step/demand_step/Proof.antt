@@ -31,8 +31,8 @@ directions-in-requires c κs =
     let p = after-start .before .pre in
     (at-suspension-pass .suspension-pass .kept .0 ∙ at-cast-pass .cast-pass .kept .0 ∙ p .0, p .1)
 
-friction-pass-requires : tie.Need-friction-pass-requires
-friction-pass-requires c κs =
+demand-pass-requires : tie.Need-demand-pass-requires
+demand-pass-requires c κs =
     let at-spring-pass = c .before .before .before .before in
     let at-suspension-pass = at-spring-pass .before .before .before .before in
     let at-cast-pass = at-suspension-pass .before .before .before .before in
@@ -43,11 +43,11 @@ friction-pass-requires c κs =
 
 same-length : tie.Need-same-length
 same-length c =
-    let at-friction-pass = c .before .before in
-    let at-count-grounded = at-friction-pass .before .before .before .before in
-    let at-table2 = at-count-grounded .before .before .before .before in
+    let at-demand-pass = c .before .before in
+    let at-grounded-wheels = at-demand-pass .before .before .before .before in
+    let at-table2 = at-grounded-wheels .before .before .before .before in
     let at-table = at-table2 .before .before .before .before in
-    at-friction-pass .friction-pass .kept .0 ∙ at-table2 .before .suspension-pass .kept .0 ∙ at-table .before .cast-pass .kept .0
+    at-demand-pass .demand-pass .kept .0 ∙ at-table2 .before .suspension-pass .kept .0 ∙ at-table .before .cast-pass .kept .0
 
 returns : tie.Need-returns
 returns c =
@@ -58,7 +58,7 @@ returns c =
     let suspension = spring .before .before .before .before in
     let cast = suspension .before .before .before .before in
     demand-step-of-passes _ _ _ _ _ _ _ _ _ _ _ _ (cast .before .before .before .get-chassis .ensures) (cast .cast-pass .ensures) (suspension .suspension-pass .ensures) (spring .spring-pass .ensures)
-    (given .directions-in .ensures) (counted .count-grounded .ensures) (friction .friction-pass .ensures)
+    (given .directions-in .ensures) (counted .grounded-wheels .ensures) (friction .demand-pass .ensures)
 
 pub demand-step-spec : {M : Type 1} → statement M
 demand-step-spec =
@@ -70,6 +70,6 @@ demand-step-spec =
     spring-pass-requires
     (λ c κs. let at-suspension-pass = c .before .before .before .before in let at-cast-pass = at-suspension-pass .before .before .before .before in let at-get-chassis = at-cast-pass .before .before .before in let after-start = at-get-chassis .before .before .before .before in after-start .before .pre .1)
     directions-in-requires
-    friction-pass-requires
+    demand-pass-requires
     same-length
     returns)

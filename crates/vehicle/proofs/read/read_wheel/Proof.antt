@@ -24,7 +24,7 @@ returns-2 c =
     let at-refuse-read = c .before .before .before in
     let a = at-refuse-read .before .before .before .args in
     settled-done _ _ _ _ _ _ _ (at-refuse-read .refuse-read .ensures) (c .before .before .if1 .left)
-    (ap (λ (r : Reading). after r (a .table .now) (a .whole .now)) (c .reading .ensures ∙ ap readingOf (c .before .get-wheel .ensures)))
+    (ap (λ (r : Reading). after r (a .table .now) (a .whole .now)) (c .reading-of .ensures ∙ ap readingOf (c .before .get-wheel .ensures)))
 
 pub read-wheel-spec : {M : Type 1} → statement M
 read-wheel-spec = tie.close (tie.spec (λ c κs. tt) (λ c κs. tt) returns get-wheel-requires (λ c κs. tt) returns-2)

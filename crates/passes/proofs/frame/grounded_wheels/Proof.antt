@@ -1,4 +1,4 @@
--- `passes::frame::count_grounded` meets its contract: the count so far and the grounded wheels from i on make up the whole. Assumes nothing.
+-- `passes::frame::grounded_wheels` meets its contract: the count so far and the grounded wheels from i on make up the whole. Assumes nothing.
 use borrow.Author.Needs.{needs}
 use Prim.Native.Nat.{_+_, _-_, _≤_}
 use mathlib.Core.Logic.{⊎-elim}
@@ -10,8 +10,8 @@ use Rattle.lists.proofs.Picks.{told}
 use Rattle.lists.proofs.Turns.{tally-yes, tally-no, tally-end}
 use Rattle.wheel.specs.Ray.{answerAt}
 use Rattle.passes.specs.Frame.{groundedAt, groundedWheels}
-use Rattle.passes.proofs.frame.count_grounded.Statement.{statement}
-use Rattle.passes.proofs.frame.count_grounded.Tie as tie
+use Rattle.passes.proofs.frame.grounded_wheels.Statement.{statement}
+use Rattle.passes.proofs.frame.grounded_wheels.Tie as tie
 
 abbrev Inv-loop : tie.InvT-loop
 Inv-loop n answers grounded₀ i₀ grounded i = (i ≤ n) × (grounded ≤ i) × (grounded + tally (groundedAt (answerAt answers)) (n - i) i ≡ groundedWheels (answerAt answers) n)
@@ -45,5 +45,5 @@ loop-again c =
 returns : tie.Need-returns Inv-loop μ-loop
 returns c = tally-end _ _ _ _ _ (omega arith) (c .before .loop .inv .2)
 
-pub count-grounded-spec : {M : Type 1} → statement M
-count-grounded-spec = tie.close (tie.spec Inv-loop μ-loop loop-holds (λ c. search needs) (λ c. search needs) (λ c κs. search needs) add-grounded (λ c. search needs) (λ c. search needs) loop-again returns)
+pub grounded-wheels-spec : {M : Type 1} → statement M
+grounded-wheels-spec = tie.close (tie.spec Inv-loop μ-loop loop-holds (λ c. search needs) (λ c. search needs) (λ c κs. search needs) add-grounded (λ c. search needs) (λ c. search needs) loop-again returns)
