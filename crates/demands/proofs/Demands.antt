@@ -14,19 +14,19 @@ use Rattle.tyre.specs.Grip.{skidOf, rescaledBy}
 use Rattle.tyre.specs.Demand3.{precision, Grips, WithinBrake, leastLimit}
 use Rattle.tyre.proofs.Demand3.{not-sliding, sliding}
 use Rattle.table.specs.Layout as at
-use Rattle.passes.specs.Frame.{Frame}
+use Rattle.ground.specs.Frame.{Frame}
 use Rattle.refusals.specs.Shape.{countOf, upOf, forwardOf}
 use Rattle.refusals.specs.After.{After, after, settled, marked}
 use Rattle.refusals.proofs.Settled.{settled-refused, settled-done, settled-number}
-use Rattle.vehicle.specs.declared.Reading.{Reading}
-use Rattle.vehicle.specs.SetUp.{setUp, refuseSetUp}
-use Rattle.vehicle.specs.Add.{addWheel, refuseAdd}
-use Rattle.vehicle.specs.Controls.{setControls, refuseControls}
-use Rattle.vehicle.specs.Read.{readWheel, refuseRead, notRead, readingOf}
-use Rattle.vehicle.proofs.Accepted.{read-says}
-use Rattle.drive.specs.declared.Aimed.{Aimed}
+use Rattle.read_wheel.specs.declared.Reading.{Reading}
+use Rattle.set_up.specs.SetUp.{setUp, refuseSetUp}
+use Rattle.add_wheel.specs.Add.{addWheel, refuseAdd}
+use Rattle.set_controls.specs.Controls.{setControls, refuseControls}
+use Rattle.read_wheel.specs.Read.{readWheel, refuseRead, notRead, readingOf}
+use Rattle.read_wheel.proofs.Accepted.{read-says}
+use Rattle.aim.specs.declared.Aimed.{Aimed}
 use Rattle.drive.specs.declared.Driven.{Driven}
-use Rattle.drive.specs.Aim.{aimOf, refuseAim, notAimed, aimedBy, aimedTable}
+use Rattle.aim.specs.Aim.{aimOf, refuseAim, notAimed, aimedBy, aimedTable}
 use Rattle.passes.specs.Passes.{stored}
 use Rattle.passes.specs.Step.{wholeStep}
 use Rattle.drive.specs.Drive.{driveUnder, driveOf, refuseDrive, notDriven, drivenBy}

@@ -11,7 +11,7 @@ use Rattle.lists.specs.Refusal.{firstFailed}
 use Rattle.table.specs.Bounds.{storedWithin}
 use Rattle.refusals.specs.Shape.{countOf}
 use Rattle.refusals.proofs.Says.{Shape}
-use Rattle.vehicle.specs.Read.{refuseRead}
+use Rattle.read_wheel.specs.Read.{refuseRead}
 use Rattle.demands.proofs.Shapes.{shape-ok}
 use Rattle.demands.proofs.Marks.{isDriven}
 

@@ -43,12 +43,12 @@ use Rattle.wheel.proofs.Alone.{impulses-alone}
 use Rattle.table.specs.Layout as at
 use Rattle.table.specs.Rows.{wheelAt, wheelOf, controlsAt, chassisAt, rowStart}
 use Rattle.table.proofs.Within.{stored-within-says}
-use Rattle.passes.specs.Frame.{groundedAt, groundedWheels, groundUnder}
+use Rattle.ground.specs.Frame.{groundedAt, groundedWheels, groundUnder}
 use Rattle.passes.specs.Passes.{stored, admits, admittedAt, demandsAdmitted}
 use Rattle.passes.specs.Step.{sprung, wholeStep}
 use Rattle.refusals.specs.Shape.{upOf}
 use Rattle.refusals.specs.After.{After}
-use Rattle.refusals.proofs.Says.{wheel-says, stored-settings-say, unit-says}
+use Rattle.ranges.proofs.Says.{wheel-says, stored-settings-say, unit-says}
 use Rattle.refusals.proofs.Settled.{settled-done}
 use Rattle.drive.specs.declared.Driven.{Driven}
 use Rattle.drive.specs.Drive.{driveUnder, driveOf, refuseDrive, notDriven}

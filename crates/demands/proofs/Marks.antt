@@ -17,16 +17,19 @@ use Rattle.refusals.specs.Shape.{countOf, markOf}
 use Rattle.refusals.specs.After.{After, after, settled, marked}
 use Rattle.refusals.proofs.Says.{Shape}
 use Rattle.refusals.proofs.Settled.{settled-refused, settled-done, settled-number}
-use Rattle.vehicle.specs.SetUp.{setUp, refuseSetUp}
-use Rattle.vehicle.specs.Add.{addWheel, refuseAdd, newWheel}
+use Rattle.set_up.specs.SetUp.{setUp, refuseSetUp}
+use Rattle.add_wheel.specs.Add.{addWheel, refuseAdd, newWheel}
 use Rattle.wheel.specs.Parts.{withControls}
-use Rattle.vehicle.specs.Controls.{setControls, refuseControls, unaimed}
-use Rattle.vehicle.specs.Read.{readWheel, refuseRead, notRead, readingOf}
-use Rattle.vehicle.proofs.Accepted.{SetUpTested, set-up-says, add-says, set-controls-says}
-use Rattle.drive.specs.Aim.{aimOf, refuseAim, notAimed, aimedBy, aimedTable}
+use Rattle.set_controls.specs.Controls.{setControls, refuseControls, unaimed}
+use Rattle.read_wheel.specs.Read.{readWheel, refuseRead, notRead, readingOf}
+use Rattle.set_up.proofs.Accepted.{SetUpTested, set-up-says}
+use Rattle.add_wheel.proofs.Accepted.{add-says}
+use Rattle.set_controls.proofs.Accepted.{set-controls-says}
+use Rattle.aim.specs.Aim.{aimOf, refuseAim, notAimed, aimedBy, aimedTable}
 use Rattle.passes.specs.Passes.{stored}
 use Rattle.drive.specs.Drive.{driveUnder, driveOf, refuseUnder, refuseDrive, notDriven, drivenBy}
-use Rattle.drive.proofs.Accepted.{aim-says, drive-says}
+use Rattle.aim.proofs.Accepted.{aim-says}
+use Rattle.drive.proofs.Accepted.{drive-says}
 use Rattle.demands.specs.History.{State, state, Call, SetUp, AddWheel, SetControls, Aim, Drive, ReadWheel, answered, accepted, run, runAll, drives, undrives, noneUndrives, drivenSince}
 use Rattle.demands.proofs.Shapes.{shape-other-table, shape-marked, shape-counted, mark-marked}
 use Rattle.demands.proofs.Sizes.{length-aimed, length-whole-step}

@@ -13,12 +13,13 @@ use Rattle.lists.specs.Refusal.{Test, firstFailed}
 use Rattle.lists.proofs.Picks.{pick-true}
 use Rattle.refusals.specs.After.{After, settled}
 use Rattle.refusals.proofs.Settled.{settled-number}
-use Rattle.vehicle.specs.SetUp.{setUp, refuseSetUp}
-use Rattle.vehicle.specs.Add.{addWheel, refuseAdd}
-use Rattle.vehicle.specs.Controls.{setControls, refuseControls}
-use Rattle.vehicle.specs.Read.{readWheel, refuseRead, notRead, readingOf}
-use Rattle.drive.specs.Aim.{aimOf, refuseAim, notAimed, aimedBy, chassisTests, placeTests}
-use Rattle.drive.specs.Drive.{driveUnder, driveOf, refuseUnder, refuseDrive, notDriven, drivenBy, earlyTests, frameTests, numberTests, rangeTests, stepTests}
+use Rattle.set_up.specs.SetUp.{setUp, refuseSetUp}
+use Rattle.add_wheel.specs.Add.{addWheel, refuseAdd}
+use Rattle.set_controls.specs.Controls.{setControls, refuseControls}
+use Rattle.read_wheel.specs.Read.{readWheel, refuseRead, notRead, readingOf}
+use Rattle.aim.specs.Aim.{aimOf, refuseAim, notAimed, aimedBy, chassisTests, placeTests}
+use Rattle.drive.specs.Drive.{driveUnder, driveOf, refuseUnder, refuseDrive, notDriven, drivenBy, stepTests}
+use Rattle.early.specs.Early.{earlyTests, frameTests, numberTests, rangeTests}
 use Rattle.demands.specs.History.{State, Call, SetUp, AddWheel, SetControls, Aim, Drive, ReadWheel, answered}
 
 -- a list of refusals with no number above k

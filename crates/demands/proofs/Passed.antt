@@ -22,7 +22,7 @@ use Rattle.wheel.specs.Step.{suspendedOf, frictionOf, impulsesOf, spunBy, updat
 use Rattle.table.specs.Layout as at
 use Rattle.table.specs.Rows.{wheelAt, chassisAt}
 use Rattle.table.proofs.Laws.{wheel-stays}
-use Rattle.passes.specs.Frame.{Frame, groundedAt, groundedWheels, groundUnder}
+use Rattle.ground.specs.Frame.{Frame, groundedAt, groundedWheels, groundUnder}
 use Rattle.passes.specs.Passes.{noDirections, directionsIn, directionsAt, demandOf, demandAt, casts, rescales}
 use Rattle.passes.specs.Step.{sprung, demanded, pushed, spun, demandStep, wholeStep}
 use Rattle.passes.proofs.Laws.{wheel-casts, wheel-suspensions, wheel-demands, wheel-rescales, wheel-spins}

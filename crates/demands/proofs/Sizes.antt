@@ -9,11 +9,11 @@ use Rattle.tyre.specs.declared.WheelTuning.{WheelTuning}
 use Rattle.table.specs.Layout as at
 use Rattle.table.specs.Rows.{putChassis}
 use Rattle.table.proofs.Laws.{length-keep}
-use Rattle.passes.specs.Frame.{Frame}
+use Rattle.ground.specs.Frame.{Frame}
 use Rattle.passes.specs.Passes.{transforms, casts, suspensions, demands, rescales, spins}
 use Rattle.passes.specs.Step.{sprung, demanded, pushed, spun, demandStep, wholeStep}
 use Rattle.passes.proofs.Laws.{length-each}
-use Rattle.drive.specs.Aim.{aimedTable}
+use Rattle.aim.specs.Aim.{aimedTable}
 
 pub length-aimed : (f : Format) (c : Chassis) (n : ℕ) (t : List Float) → length t ≡ at.SIZE → n ≤ at.WHEELS → length (aimedTable f c n t) ≡ at.SIZE
 unfolding aimedTable transforms

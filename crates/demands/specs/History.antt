@@ -7,14 +7,14 @@ use lib.Ieee.{Float, Format}
 use Rattle.body.specs.declared.Chassis.{Chassis}
 use Rattle.wheel.specs.declared.Settings.{Settings}
 use Rattle.wheel.specs.declared.Controls.{Controls}
-use Rattle.passes.specs.Frame.{Frame}
+use Rattle.ground.specs.Frame.{Frame}
 use Rattle.refusals.specs.Shape.{countOf}
 use Rattle.refusals.specs.After.{After, after}
-use Rattle.vehicle.specs.SetUp.{setUp}
-use Rattle.vehicle.specs.Add.{addWheel}
-use Rattle.vehicle.specs.Controls.{setControls}
-use Rattle.vehicle.specs.Read.{readWheel}
-use Rattle.drive.specs.Aim.{aimOf}
+use Rattle.set_up.specs.SetUp.{setUp}
+use Rattle.add_wheel.specs.Add.{addWheel}
+use Rattle.set_controls.specs.Controls.{setControls}
+use Rattle.read_wheel.specs.Read.{readWheel}
+use Rattle.aim.specs.Aim.{aimOf}
 use Rattle.drive.specs.Drive.{driveOf}
 
 -- what a host lends: the table and the whole numbers beside it

@@ -11,7 +11,7 @@ use Rattle.wheel.specs.declared.Wheel.{Wheel}
 use Rattle.tyre.specs.Grip.{slides}
 use Rattle.wheel.specs.Step.{wheelLimit}
 use Rattle.table.specs.Rows.{wheelAt, chassisAt}
-use Rattle.passes.specs.Frame.{Frame, groundedAt, groundedWheels}
+use Rattle.ground.specs.Frame.{Frame, groundedAt, groundedWheels}
 use Rattle.passes.specs.Passes.{stored}
 use Rattle.passes.specs.Step.{sprung, demandStep}
 use Rattle.drive.specs.Drive.{driveOf, refuseDrive}

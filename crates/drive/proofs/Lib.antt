@@ -1,5 +1,3 @@
--- The laws that the proofs of a frame's calls cite.
+-- The laws that the proofs of a drive, and its callers, cite.
 pub mod Accepted
-pub mod Steps
 pub mod Tries
-pub mod Aims

@@ -13,7 +13,7 @@ use Rattle.lists.proofs.Refusals.{append-refused-by, append-passed}
 use Rattle.body.specs.declared.Chassis.{Chassis}
 use Rattle.table.specs.Layout as at
 use Rattle.table.specs.Bounds.{storedWithin}
-use Rattle.passes.specs.Frame.{Frame}
+use Rattle.ground.specs.Frame.{Frame}
 use Rattle.tyre.specs.declared.WheelTuning.{WheelTuning}
 use Rattle.wheel.specs.declared.Directions.{Directions}
 use Rattle.passes.specs.Passes.{demandsAdmitted}
@@ -22,9 +22,10 @@ use Rattle.refusals.specs.Shape.{upOf}
 use Rattle.refusals.specs.After.{after, marked}
 use Rattle.refusals.proofs.Settled.{settled-refused, settled-done}
 use Rattle.drive.specs.declared.Driven.{Driven}
-use Rattle.drive.specs.Drive.{earlyTests, stepTests, refuseUnder, wakes, notDriven, drivenBy, driveUnder}
+use Rattle.early.specs.Early.{earlyTests}
+use Rattle.drive.specs.Drive.{stepTests, refuseUnder, wakes, notDriven, drivenBy, driveUnder}
 use Rattle.drive.specs.Tried.{Tried, tried, tryStep}
-use Rattle.drive.proofs.Accepted.{early-numbered}
+use Rattle.early.proofs.Accepted.{early-numbered}
 
 -- the step: `demanded` and c after the demands, `last` and c' at its end, t' the table as it is left
 module _ (f : Format) (tune : WheelTuning → WheelTuning) (t t' demanded : List Float) (up : ℕ) (r : Frame) (n : ℕ) (c : Chassis) (d : List Directions) (admitted : Bool) where

@@ -1,4 +1,3 @@
-pub mod Aim
 pub mod Drive
 pub mod Results
 pub mod Tried

@@ -6,7 +6,7 @@ use lib.Ieee.{Float, Format}
 use Rattle.lists.specs.Pick.{pick}
 use Rattle.lists.specs.Refusal.{firstFailed}
 use Rattle.tyre.specs.declared.WheelTuning.{WheelTuning}
-use Rattle.passes.specs.Frame.{Frame}
+use Rattle.ground.specs.Frame.{Frame}
 use Rattle.passes.specs.Step.{wholeStep}
 use Rattle.drive.specs.declared.Driven.{Driven}
 use Rattle.drive.specs.Drive.{stepTests, notDriven, drivenBy}

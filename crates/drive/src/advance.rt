@@ -1,125 +1,18 @@
 // Drive: the vehicle by one step.
 use super::Driven;
-use refusals::handed;
-use refusals::ranges;
-use refusals::shape;
-use table::bounds::HANDED;
 use table::layout::*;
 use wheel::RayAnswer;
 ghost use mathlib.Core.Path.{_≡_};
-ghost use Prim.Native.Nat.{_*_, _≤_};
+ghost use Prim.Native.Nat.{_≤_};
 ghost use lib.ListN.{length};
 ghost use lib.Ieee.{binary32};
-ghost use Rattle.lists.specs.Refusal.{firstFailed};
 ghost use Rattle.table.specs.Layout as at;
 ghost use Rattle.wheel.specs.Ray.{answerAt};
-ghost use Rattle.passes.specs.Frame.{frame, Listed};
+ghost use Rattle.ground.specs.Frame.{frame, Listed};
 ghost use Rattle.passes.specs.Passes.{stored};
 ghost use Rattle.refusals.specs.After.{after};
-ghost use Rattle.drive.specs.Drive.{earlyTests, frameTests, numberTests, rangeTests, wakes, notDriven, driveOf};
+ghost use Rattle.drive.specs.Drive.{wakes, notDriven, driveOf};
 ghost use Rattle.drive.specs.Tried.{tried, tryStep};
-
-// Refusals 1, 5 and 6.
-fn refuse_frame(
-    table: &[f32],
-    whole: &[u32],
-    bodies: &[f32],
-    dynamic: &[bool],
-    answers: [RayAnswer; WHEELS],
-    n: usize,
-) -> u32
-    ensures { λ r. ⌜ r ≡ firstFailed (frameTests (now (table .entry)) (now (whole .entry)) (now (bodies .entry)) (now (dynamic .entry)) (answerAt answers) n) ⌝ }
-{
-    if !shape::is_shape_ok(table, whole) {
-        return 1;
-    }
-    if whole[MARK] != AIMED {
-        return 5;
-    }
-    if n != whole[COUNT] as usize {
-        return 6;
-    }
-    let count = dynamic.len();
-    if count > BODIES {
-        return 6;
-    }
-    if bodies.len() != count * BODY {
-        return 6;
-    }
-    if !handed::are_answers_ok(count as u32, answers, n) {
-        return 6;
-    }
-    0
-}
-
-// Refusal 2.
-fn refuse_numbers(
-    table: &[f32],
-    dt: f32,
-    bodies: &[f32],
-    answers: [RayAnswer; WHEELS],
-    n: usize,
-) -> u32
-    requires { ⌜ (length (now table) ≡ at.SIZE) × (n ≤ at.WHEELS) ⌝ }
-    ensures { λ r. ⌜ r ≡ firstFailed (numberTests (now (table .entry)) dt (now (bodies .entry)) (answerAt answers) n) ⌝ }
-{
-    if !real::is_within(HANDED, dt) {
-        return 2;
-    }
-    if !table::bounds::all_within(HANDED, bodies) {
-        return 2;
-    }
-    if !handed::are_all_normals_handed(answers, n) {
-        return 2;
-    }
-    if !table::bounds::stored_within(table, n) {
-        return 2;
-    }
-    0
-}
-
-// Refusal 10, with `count` ground bodies.
-fn refuse_ranges(table: &[f32], dt: f32, bodies: &[f32], count: usize, n: usize) -> u32
-    requires { ⌜ (length (now table) ≡ at.SIZE) × (n ≤ at.WHEELS) × (count ≤ at.BODIES) × (length (now bodies) ≡ count * at.BODY) ⌝ }
-    ensures { λ r. ⌜ r ≡ firstFailed (rangeTests binary32 (now (table .entry)) dt (now (bodies .entry)) count n) ⌝ }
-{
-    if !ranges::is_in_unit(dt) {
-        return 10;
-    }
-    if !ranges::are_bodies_in_range(bodies, count) {
-        return 10;
-    }
-    if !ranges::is_stored_in_range(table, n) {
-        return 10;
-    }
-    if !ranges::is_chassis_in_range(table::rows::get_chassis(table)) {
-        return 10;
-    }
-    0
-}
-
-// Refusals 1, 5, 6, 2 and 10, in this order.
-fn refuse_early(
-    table: &[f32],
-    whole: &[u32],
-    dt: f32,
-    bodies: &[f32],
-    dynamic: &[bool],
-    answers: [RayAnswer; WHEELS],
-    n: usize,
-) -> u32
-    ensures { λ r. ⌜ r ≡ firstFailed (earlyTests binary32 (now (table .entry)) (now (whole .entry)) (frame dt (now (bodies .entry)) (now (dynamic .entry)) (answerAt answers)) n) ⌝ }
-{
-    let a = refuse_frame(table, whole, bodies, dynamic, answers, n);
-    if a != 0 {
-        return a;
-    }
-    let b = refuse_numbers(table, dt, bodies, answers, n);
-    if b != 0 {
-        return b;
-    }
-    refuse_ranges(table, dt, bodies, dynamic.len(), n)
-}
 
 // Whether any engine force of the first n wheels is above 0.
 fn wakes(table: &[f32], n: usize) -> bool
@@ -163,14 +56,14 @@ fn try_step(
     ensures { λ r. ⌜ tried r (now (table .exit)) ≡ tryStep binary32 stored (now (table .entry)) up (frame dt (now (bodies .entry)) (now (dynamic .entry)) (answerAt answers)) n ⌝ }
 {
     let kept = table::rows::copied(&table[..]);
-    let d = super::step::demand_step(table, dt, bodies, dynamic, answers, n);
+    let d = update::demand_step(table, dt, bodies, dynamic, answers, n);
     if !passes::chassis::are_admitted(&table[..], n, dt, answers) {
         table::rows::copy(table, &kept);
         return not_driven(7);
     }
     let c = d.chassis;
     let directions = d.directions;
-    let after = super::step::finish_step(table, up, dt, answers, n, c, directions);
+    let after = update::finish_step(table, up, dt, answers, n, c, directions);
     if !table::bounds::stored_within(&table[..], n) {
         table::rows::copy(table, &kept);
         return not_driven(8);
@@ -208,7 +101,7 @@ pub fn drive(
 ) -> Driven
     ensures { λ r. ⌜ after r (now (table .exit)) (now (whole .exit)) ≡ driveOf binary32 (now (table .entry)) (now (whole .entry)) (frame dt (now (bodies .entry)) (now (dynamic .entry)) (answerAt answers)) n ⌝ }
 {
-    let number = refuse_early(&table[..], &whole[..], dt, bodies, dynamic, answers, n);
+    let number = early::refuse_early(&table[..], &whole[..], dt, bodies, dynamic, answers, n);
     if number != 0 {
         return not_driven(number);
     }

@@ -6,21 +6,21 @@ use lib.ListN.{length}
 use lib.Ieee.{Float, Format}
 use Rattle.lists.specs.Refusal.{firstFailed}
 use Rattle.refusals.specs.After.{After, settled}
-use Rattle.vehicle.specs.Add.{addWheel}
-use Rattle.vehicle.specs.Controls.{setControls}
-use Rattle.vehicle.specs.declared.Reading.{Reading}
-use Rattle.vehicle.specs.Read.{READING, readingList, readWheel}
+use Rattle.add_wheel.specs.Add.{addWheel}
+use Rattle.set_controls.specs.Controls.{setControls}
+use Rattle.read_wheel.specs.declared.Reading.{Reading}
+use Rattle.read_wheel.specs.Read.{READING, readingList, readWheel}
 use Rattle.table.specs.Layout as table
 use Rattle.table.specs.Rows.{settingsAt, controlsAt, chassisOf}
-use Rattle.drive.specs.declared.Aimed.{Aimed}
-use Rattle.drive.specs.Aim.{aimOf}
+use Rattle.aim.specs.declared.Aimed.{Aimed}
+use Rattle.aim.specs.Aim.{aimOf}
 use Rattle.drive.specs.declared.Driven.{Driven}
 use Rattle.drive.specs.Drive.{driveOf}
-use Rattle.drive.specs.Results.{aimedList}
-use Rattle.exports.specs.Layout as at
-use Rattle.exports.specs.Ends.{Flat, flat, ofLength, flattened}
-use Rattle.exports.specs.Lists.{listTests, frameIn}
-use Rattle.exports.specs.Results.{drivenList}
+use Rattle.aim.specs.Sights.{aimedList}
+use Rattle.flat_out.specs.Layout as at
+use Rattle.flat_out.specs.Ends.{Flat, flat, ofLength, flattened}
+use Rattle.flat_in.specs.Lists.{listTests, frameIn}
+use Rattle.flat_out.specs.Results.{drivenList}
 
 unfoldable pub flatAdd : List Float → List ℕ → List Float → After ℕ
 flatAdd t m settings = settled (firstFailed (ofLength settings table.SETTINGS ∷ [])) (λ n. n) (addWheel t m (settingsAt settings 0)) t m

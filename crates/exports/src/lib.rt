@@ -1,23 +1,25 @@
-// The functions that a host links: `rt staticlib exports` puts them into one archive. They are the calls of crates `vehicle` and `drive` on
+// The functions that a host links: `rt staticlib exports` puts them into one archive. They are the six calls on
 // numbers and flat lists; a list is a pointer and a length. Each is total on every length and every number, answers the refusal number of its
 // call, and refuses with 1, before all else, a list of settings, controls, chassis or results of the wrong length. Results are written only
 // where the answer is 0.
+use drive::Driven;
+use read_wheel::READING;
 use table::layout as lent;
-use vehicle::read::READING;
 ghost use mathlib.Core.Path.{_≡_};
+ghost use mathlib.Core.Bool.{true};
+ghost use lib.ListN.{length};
 ghost use lib.Ieee.{binary32};
 ghost use Rattle.real.specs.Root.{rootOf};
 ghost use Rattle.refusals.specs.After.{after};
 ghost use Rattle.table.specs.Layout as lent;
-ghost use Rattle.vehicle.specs.SetUp.{setUp};
-ghost use Rattle.vehicle.specs.Read as read;
-ghost use Rattle.exports.specs.Layout as at;
-ghost use Rattle.exports.specs.Ends.{flat};
+ghost use Rattle.set_up.specs.SetUp.{setUp};
+ghost use Rattle.read_wheel.specs.Read as read;
+ghost use Rattle.drive.specs.Drive.{driveOf};
+ghost use Rattle.flat_in.specs.Lists.{listsFit, frameIn};
+ghost use Rattle.flat_out.specs.Layout as at;
+ghost use Rattle.flat_in.specs.Layout as rays;
+ghost use Rattle.flat_out.specs.Ends.{flat};
 ghost use Rattle.exports.specs.Calls.{flatAdd, flatControls, flatRead, flatAim, flatDrive};
-
-pub mod layout; // where each number stands
-pub mod answers; // the lists of a drive
-pub mod results; // what a call writes
 
 // The square root of x, correctly rounded. A NaN, and a number below zero, give a NaN.
 #[no_mangle]
@@ -27,16 +29,16 @@ pub extern "C" fn vehicle_root(x: f32) -> f32
     real::root::root(x)
 }
 
-// Makes the lent numbers a vehicle with no wheels: `vehicle::set_up::set_up`.
+// Makes the lent numbers a vehicle with no wheels: `set_up::set_up`.
 // Takes: the table, vehicle_table_len numbers, and the whole numbers, vehicle_whole_len, of any contents; the up and the forward axis.
 #[no_mangle]
 pub extern "C" fn vehicle_set_up(table: &mut [f32], whole: &mut [u32], up: u32, forward: u32) -> u32
     ensures { λ r. ⌜ after r (now (table .exit)) (now (whole .exit)) ≡ setUp (now (table .entry)) (now (whole .entry)) up forward ⌝ }
 {
-    vehicle::set_up::set_up(table, whole, up, forward)
+    set_up::set_up(table, whole, up, forward)
 }
 
-// Adds a wheel: `vehicle::add::add_wheel`.
+// Adds a wheel: `add_wheel::add_wheel`.
 // Takes: a vehicle; the settings, vehicle_settings_len numbers: connection point, direction and axle; rest length and radius; stiffness,
 // compression, damping, travel, side friction stiffness, friction slip, maximum force.
 #[no_mangle]
@@ -47,10 +49,10 @@ pub extern "C" fn vehicle_add_wheel(table: &mut [f32], whole: &mut [u32], settin
         return 1;
     }
     let s = table::parts::settings_at(settings, 0);
-    vehicle::add::add_wheel(table, whole, s)
+    add_wheel::add_wheel(table, whole, s)
 }
 
-// Sets the controls of one wheel: `vehicle::controls::set_controls`.
+// Sets the controls of one wheel: `set_controls::set_controls`.
 // Takes: a vehicle; the wheel's number; the controls, vehicle_controls_len numbers: engine force, brake, and the steering's x, y, z, w.
 #[no_mangle]
 pub extern "C" fn vehicle_set_controls(
@@ -65,10 +67,10 @@ pub extern "C" fn vehicle_set_controls(
         return 1;
     }
     let c = table::parts::controls_at(controls, 0);
-    vehicle::controls::set_controls(table, whole, wheel, c)
+    set_controls::set_controls(table, whole, wheel, c)
 }
 
-// Takes the chassis and writes what the host casts: `drive::aim::aim`.
+// Takes the chassis and writes what the host casts: `aim::aim`.
 // Takes: a vehicle; the chassis, vehicle_chassis_len numbers in the order in which the table keeps it.
 // Results, vehicle_aim_len numbers: the signed speed, then for each of the 16 wheels its hard point and its ray, zeros where there is none.
 #[no_mangle]
@@ -83,13 +85,41 @@ pub extern "C" fn vehicle_aim(
     if chassis.len() != lent::KEPT {
         return 1;
     }
-    if results.len() != layout::AIM {
+    if results.len() != flat_out::layout::AIM {
         return 1;
     }
     let c = table::rows::read_chassis(chassis);
-    let r = drive::aim::aim(table, whole, c);
-    results::put_aimed(results, r);
+    let r = aim::aim(table, whole, c);
+    flat_out::put_aimed(results, r);
     r.number
+}
+
+// The drive on lists that fit together.
+fn drive_lists(
+    table: &mut [f32],
+    whole: &mut [u32],
+    dt: f32,
+    bodies: &[f32],
+    dynamic: &[u32],
+    kinds: &[u32],
+    named: &[u32],
+    rays: &[f32],
+) -> Driven
+    requires { ⌜ listsFit (now dynamic) (now kinds) (now named) (now rays) ≡ true ⌝ }
+    ensures { λ r. ⌜ after r (now (table .exit)) (now (whole .exit)) ≡ driveOf binary32 (now (table .entry)) (now (whole .entry)) (frameIn dt (now (bodies .entry)) (now (dynamic .entry)) (now (kinds .entry)) (now (named .entry)) (now (rays .entry))) (length (now (kinds .entry))) ⌝ }
+{
+    let count = dynamic.len();
+    let flags = flat_in::decode_flags(dynamic);
+    let answers = flat_in::decode_answers(kinds, named, rays);
+    drive::advance::drive(
+        table,
+        whole,
+        dt,
+        bodies,
+        &flags[0..count],
+        answers,
+        kinds.len(),
+    )
 }
 
 // Drives the vehicle by one step: `drive::advance::drive`. Lists that do not fit together are refusal 6.
@@ -111,19 +141,19 @@ pub extern "C" fn vehicle_drive(
 ) -> u32
     ensures { λ r. ⌜ after (flat r (now (results .exit))) (now (table .exit)) (now (whole .exit)) ≡ flatDrive binary32 (now (table .entry)) (now (whole .entry)) dt (now (bodies .entry)) (now (dynamic .entry)) (now (kinds .entry)) (now (named .entry)) (now (rays .entry)) (now (results .entry)) ⌝ }
 {
-    if results.len() != layout::DRIVE {
+    if results.len() != flat_out::layout::DRIVE {
         return 1;
     }
-    let number = answers::refuse_lists(&table[..], &whole[..], dynamic, kinds, named, rays);
+    let number = flat_in::refuse_lists(&table[..], &whole[..], dynamic, kinds, named, rays);
     if number != 0 {
         return number;
     }
-    let r = answers::drive_lists(table, whole, dt, bodies, dynamic, kinds, named, rays);
-    results::put_driven(results, r);
+    let r = drive_lists(table, whole, dt, bodies, dynamic, kinds, named, rays);
+    flat_out::put_driven(results, r);
     r.number
 }
 
-// Reads one wheel after a drive: `vehicle::read::read_wheel`.
+// Reads one wheel after a drive: `read_wheel::read_wheel`.
 // Takes: a vehicle; the wheel's number.
 // Results, vehicle_read_len numbers: centre, world direction, world axle, suspension length, force, forward and side impulse, skid, rotation.
 #[no_mangle]
@@ -138,8 +168,8 @@ pub extern "C" fn vehicle_read_wheel(
     if results.len() != READING {
         return 1;
     }
-    let r = vehicle::read::read_wheel(table, whole, wheel);
-    results::put_reading(results, r);
+    let r = read_wheel::read_wheel(table, whole, wheel);
+    flat_out::put_reading(results, r);
     r.number
 }
 
@@ -194,9 +224,9 @@ pub extern "C" fn vehicle_body_len() -> u32
 // How many numbers a ray answer is.
 #[no_mangle]
 pub extern "C" fn vehicle_ray_len() -> u32
-    ensures { λ r. ⌜ r ≡ at.RAY ⌝ }
+    ensures { λ r. ⌜ r ≡ rays.RAY ⌝ }
 {
-    layout::RAY as u32
+    flat_in::layout::RAY as u32
 }
 
 // How many numbers an aim writes.
@@ -204,7 +234,7 @@ pub extern "C" fn vehicle_ray_len() -> u32
 pub extern "C" fn vehicle_aim_len() -> u32
     ensures { λ r. ⌜ r ≡ at.AIM ⌝ }
 {
-    layout::AIM as u32
+    flat_out::layout::AIM as u32
 }
 
 // How many numbers a drive writes.
@@ -212,7 +242,7 @@ pub extern "C" fn vehicle_aim_len() -> u32
 pub extern "C" fn vehicle_drive_len() -> u32
     ensures { λ r. ⌜ r ≡ at.DRIVE ⌝ }
 {
-    layout::DRIVE as u32
+    flat_out::layout::DRIVE as u32
 }
 
 // How many numbers a read writes.

@@ -1,6 +1,6 @@
 -- The numbers of a printed line: document 01, "Scenario program". Definitions only.
 use Prim.Native.Nat.{ℕ, _+_, _*_}
-use Rattle.stream.specs.Layout.{ANSWERS}
+use Rattle.grammar.specs.Layout.{ANSWERS}
 
 abbrev pub SPACE : ℕ
 SPACE = 32

@@ -1,5 +1,5 @@
 // The numbers of a printed line: document 01, "Scenario program".
-use stream::layout::ANSWERS;
+use grammar::layout::ANSWERS;
 
 pub const SPACE: u8 = 32;
 

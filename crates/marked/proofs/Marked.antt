@@ -7,7 +7,7 @@ use Rattle.real.specs.Root.{rootOf}
 use Rattle.real.specs.Scalar.{inverseOf, raisedOf, loweredOf, clampOf, notBelowZero}
 use Rattle.tyre.specs.Suspension.{approachOf, suspensionLength, dampingOf, suspensionForce}
 use Rattle.tyre.specs.Grip.{loadOf, slides, skidOf, rescaledBy, brakedOf}
-use Rattle.stream.specs.Number.{writeGroups, writeNumber}
+use Rattle.numbers.specs.Number.{writeGroups, writeNumber}
 use Rattle.marked.specs.Cases.{numbers, inverse, force, impulses, cases, Met}
 
 pub marked : Met cases

@@ -9,8 +9,8 @@ use Rattle.real.specs.Root.{rootOf}
 use Rattle.tyre.specs.declared.WheelTuning.{WheelTuning}
 use Rattle.tyre.specs.Suspension.{clip, suspensionLength, approachOf, suspensionForce}
 use Rattle.tyre.specs.Grip.{skidOf, rescaledBy, brakedOf}
-use Rattle.stream.specs.Layout.{WIDTHS}
-use Rattle.stream.specs.Number.{writeNumber}
+use Rattle.grammar.specs.Layout.{WIDTHS}
+use Rattle.numbers.specs.Number.{writeNumber}
 
 pub record Case : Type 0 where
   pub marked : ℕ

@@ -22,7 +22,7 @@ use Rattle.wheel.specs.Step.{suspendedOf, updateRotation}
 use Rattle.table.specs.Layout as at
 use Rattle.table.specs.Rows.{wheelAt, putWheel, chassisAt}
 use Rattle.table.proofs.Laws.{length-put, wheel-put, wheel-other, chassis-stays}
-use Rattle.passes.specs.Frame.{Frame, groundedAt}
+use Rattle.ground.specs.Frame.{Frame, groundedAt}
 use Rattle.passes.specs.Passes.{changed, eachWheel, moved, eachMoves, castAt, casts, suspendAt, suspensions, demandAt, demands, rescaleAt, rescales, spinAt, spins}
 
 -- ---- a loop that moves the chassis by each wheel that it reads

@@ -16,7 +16,7 @@ use Rattle.wheel.specs.Parts.{withInfo, withApproach, withForce, withRotation, 
 use Rattle.wheel.specs.Ray.{rayCast, hitOf, missOf, isGrounded}
 use Rattle.wheel.specs.Step.{wheelForce, suspendedOf, frictionOf, spunBy, updateRotation}
 use Rattle.table.specs.Rows.{wheelAt, putWheel}
-use Rattle.passes.specs.Frame.{groundUnder}
+use Rattle.ground.specs.Frame.{groundUnder}
 use Rattle.passes.specs.Passes.{stored, demandOf}
 
 -- a cast changes the info and the approach alone

@@ -25,7 +25,7 @@ use Rattle.wheel.specs.Step.{suspendedOf, applySuspension, wheelLimit, friction
 use Rattle.table.specs.Layout as at
 use Rattle.table.specs.Bounds.{STORED}
 use Rattle.table.specs.Rows.{wheelAt, putWheel}
-use Rattle.passes.specs.Frame.{Frame, groundedAt, groundUnder}
+use Rattle.ground.specs.Frame.{Frame, groundedAt, groundUnder}
 
 -- the tuning that counts is the stored one
 abbrev pub stored : WheelTuning → WheelTuning

@@ -8,7 +8,7 @@ use Rattle.tyre.specs.declared.WheelTuning.{WheelTuning}
 use Rattle.wheel.specs.declared.Directions.{Directions}
 use Rattle.wheel.specs.declared.RayAnswer.{RayAnswer}
 use Rattle.table.specs.Rows.{chassisAt, putChassis}
-use Rattle.passes.specs.Frame.{Frame, groundedWheels}
+use Rattle.ground.specs.Frame.{Frame, groundedWheels}
 use Rattle.passes.specs.Passes.{casts, suspensions, springs, directionsIn, directionsAt, demands, rescales, pushes, spins}
 
 -- the table, the chassis and the wheels' directions on the contact plane, as they stand

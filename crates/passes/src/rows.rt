@@ -12,7 +12,7 @@ ghost use Rattle.table.specs.Layout as at;
 ghost use Rattle.table.specs.Rows.{wheelAt, putWheel};
 ghost use Rattle.wheel.specs.Ray.{answerAt, namedOf, rayCast};
 ghost use Rattle.wheel.specs.Step.{suspendedOf, updateRotation};
-ghost use Rattle.passes.specs.Frame.{frame, Grounds, Listed};
+ghost use Rattle.ground.specs.Frame.{frame, Grounds, Listed};
 ghost use Rattle.passes.specs.Passes.{stored, changed, transformAt, transforms, casts, suspensions, directionsAt, demandOf, demands, spins};
 
 // Rule 1.
@@ -101,7 +101,7 @@ fn demand_wheel(
 {
     let w = table::rows::get_wheel(&table[..], i);
     let contact = wheel::ray::is_grounded(answer);
-    let ground = super::frame::ground_under(bodies, dynamic, answer);
+    let ground = ground::ground_under(bodies, dynamic, answer);
     let friction = wheel::step::friction_of(
         w.settings.tuning,
         dt,

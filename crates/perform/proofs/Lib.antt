@@ -1,5 +1,3 @@
 -- The laws that the functions' proofs cite.
-pub mod Putting
 pub mod Told
 pub mod Fronts
-pub mod Tied

@@ -1,44 +1,29 @@
 -- Document 01, "Scenario program": the call that a code asks for, its answer number and, if accepted, its results as words. `l` has the words of a whole code, and zeros behind them. Definitions only.
 use Prim.Native.Nat.{ℕ, _≤_}
-use mathlib.Core.List.{List, [], _∷_, _++_}
+use mathlib.Core.List.{List, []}
 use mathlib.Core.Path.{_≡_}
 use lib.Dec.{eqb}
 use lib.Ieee.{Float, Format}
-use lib.ListN.{length, take, replicate}
+use lib.ListN.{length, replicate}
 use Rattle.lists.specs.Pick.{pick}
 use Rattle.lists.specs.Part.{paste}
 use Rattle.wheel.specs.declared.RayAnswer.the-variants.{Nothing}
 use Rattle.wheel.specs.Ray.{answerAt}
-use Rattle.passes.specs.Frame.{Frame, frame}
+use Rattle.ground.specs.Frame.{Frame, frame}
 use Rattle.refusals.specs.Shape.{countOf}
 use Rattle.refusals.specs.After.{After, after}
-use Rattle.vehicle.specs.declared.Reading.{Reading}
-use Rattle.vehicle.specs.Add.{addWheel}
-use Rattle.vehicle.specs.Controls.{setControls}
-use Rattle.vehicle.specs.Read.{readingList, readWheel}
-use Rattle.drive.specs.declared.Aimed.{Aimed}
-use Rattle.drive.specs.declared.Driven.{Driven}
-use Rattle.drive.specs.Aim.{aimOf}
+use Rattle.add_wheel.specs.Add.{addWheel}
+use Rattle.set_controls.specs.Controls.{setControls}
+use Rattle.read_wheel.specs.Read.{readWheel}
+use Rattle.aim.specs.Aim.{aimOf}
 use Rattle.drive.specs.Drive.{driveOf}
-use Rattle.drive.specs.Results.{aimedList, velocityList}
-use Rattle.stream.specs.declared.Asked.{Asked}
-use Rattle.stream.specs.Layout as code
-use Rattle.stream.specs.Grammar.{asked}
+use Rattle.grammar.specs.declared.Asked.{Asked}
+use Rattle.grammar.specs.Layout as code
+use Rattle.grammar.specs.Grammar.{asked}
 use Rattle.scenario.specs.Decode.{numberFrom, settingsFrom, wheelFrom, controlsFrom, chassisFrom}
 use Rattle.scenario.specs.Frame.{stepFrom, bodyCountFrom, bodiesFrom, flagsFrom, answerCountFrom, answersStart, answersFrom}
-use Rattle.scenario.specs.Results.{wordsOf, flagWord}
 use Rattle.perform.specs.declared.Answer.{Answer}
-
--- ---- the results of an accepted call, in the order of docs/STREAM.md
--- an aim of so many wheels
-unfoldable pub aimResults : Format → ℕ → Aimed → List ℕ
-aimResults f wheels r = wordsOf f (aimedList (r .speed) (take wheels (r .sights)))
-
-unfoldable pub driveResults : Format → Driven → List ℕ
-driveResults f r = wordsOf f (velocityList r) ++ (flagWord (r .wake) ∷ [])
-
-unfoldable pub readResults : Format → Reading → List ℕ
-readResults f r = wordsOf f (readingList r)
+use Rattle.replies.specs.Replies.{aimResults, driveResults, readResults}
 
 -- ---- what a code is answered: a number and the results
 pub record Answered : Type 0 where

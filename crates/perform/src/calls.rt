@@ -1,13 +1,12 @@
 // The calls between frames, made from the words of their codes: add, controls, read.
 use super::Answer;
-use super::results;
 use scenario::decode;
 ghost use mathlib.Core.Path.{_≡_};
 ghost use lib.ListN.{length};
 ghost use Rattle.refusals.specs.After.{after};
-ghost use Rattle.vehicle.specs.Add.{addWheel};
-ghost use Rattle.vehicle.specs.Controls.{setControls};
-ghost use Rattle.stream.specs.Layout as code;
+ghost use Rattle.add_wheel.specs.Add.{addWheel};
+ghost use Rattle.set_controls.specs.Controls.{setControls};
+ghost use Rattle.grammar.specs.Layout as code;
 ghost use Rattle.lines.specs.Layout as line;
 ghost use Rattle.scenario.specs.Format.{format};
 ghost use Rattle.scenario.specs.Decode.{settingsFrom, wheelFrom, controlsFrom};
@@ -18,7 +17,7 @@ pub fn call_add(words: &[u32], table: &mut [f32], whole: &mut [u32]) -> u32
     requires { ⌜ length (now words) ≡ code.CODE-WORDS ⌝ }
     ensures { λ r. ⌜ after r (now (table .exit)) (now (whole .exit)) ≡ addWheel (now (table .entry)) (now (whole .entry)) (settingsFrom format (now (words .entry))) ⌝ }
 {
-    vehicle::add::add_wheel(table, whole, decode::settings_from(words))
+    add_wheel::add_wheel(table, whole, decode::settings_from(words))
 }
 
 // Sets the controls of the words. Answers the number of the call.
@@ -27,7 +26,7 @@ pub fn call_controls(words: &[u32], table: &mut [f32], whole: &mut [u32]) -> u32
     ensures { λ r. ⌜ after r (now (table .exit)) (now (whole .exit)) ≡ setControls format (now (table .entry)) (now (whole .entry)) (wheelFrom (now (words .entry))) (controlsFrom format (now (words .entry))) ⌝ }
 {
     let wheel = decode::wheel_from(words);
-    vehicle::controls::set_controls(table, whole, wheel, decode::controls_from(words))
+    set_controls::set_controls(table, whole, wheel, decode::controls_from(words))
 }
 
 // Reads the wheel that the words name; if accepted, its numbers go into the results.
@@ -36,11 +35,11 @@ pub fn call_read(words: &[u32], table: &[f32], whole: &[u32], results: &mut [u32
     ensures { λ r. ⌜ Performs (readCall format (now (words .entry)) (now (table .entry)) (now (whole .entry))) r (now (results .entry)) (now (results .exit)) (now (table .entry)) (now (whole .entry)) ⌝ }
 {
     let wheel = decode::wheel_from(words);
-    let r = vehicle::read::read_wheel(table, whole, wheel);
+    let r = read_wheel::read_wheel(table, whole, wheel);
     let number = r.number;
     if number != 0 {
         return Answer { number, count: 0 };
     }
-    let count = results::put_reading(results, r);
+    let count = replies::put_reading(results, r);
     Answer { number, count }
 }

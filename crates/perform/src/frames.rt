@@ -1,6 +1,5 @@
 // The calls of a frame, made from the words of their codes: aim, drive.
 use super::Answer;
-use super::results;
 use drive::Driven;
 use scenario::decode;
 use scenario::frame;
@@ -10,9 +9,9 @@ ghost use mathlib.Core.Path.{_≡_};
 ghost use lib.ListN.{length};
 ghost use Rattle.table.specs.Layout as at;
 ghost use Rattle.refusals.specs.After.{after};
-ghost use Rattle.passes.specs.Frame.{frame};
+ghost use Rattle.ground.specs.Frame.{frame};
 ghost use Rattle.drive.specs.Drive.{driveOf};
-ghost use Rattle.stream.specs.Layout as code;
+ghost use Rattle.grammar.specs.Layout as code;
 ghost use Rattle.lines.specs.Layout as line;
 ghost use Rattle.scenario.specs.Format.{format};
 ghost use Rattle.scenario.specs.Frame.{stepFrom};
@@ -28,12 +27,12 @@ pub fn call_aim(words: &[u32], table: &mut [f32], whole: &mut [u32], results: &m
 {
     let c = decode::chassis_from(words);
     let n = whole[COUNT];
-    let r = drive::aim::aim(table, whole, c);
+    let r = aim::aim(table, whole, c);
     let number = r.number;
     if number != 0 {
         return Answer { number, count: 0 };
     }
-    let count = results::put_aimed(results, n as usize, r);
+    let count = replies::put_aimed(results, n as usize, r);
     Answer { number, count }
 }
 
@@ -84,6 +83,6 @@ pub fn call_drive(
     if number != 0 {
         return Answer { number, count: 0 };
     }
-    let count = results::put_driven(results, r);
+    let count = replies::put_driven(results, r);
     Answer { number, count }
 }

@@ -1,15 +1,14 @@
 // The call of a scenario code: its words in, its answer and its results out.
-mod results; // the results of an accepted call
 mod calls; // add, controls and read
 mod frames; // aim and drive
 
-use stream::Asked;
+use grammar::Asked;
 ghost use mathlib.Core.Path.{_≡_};
 ghost use lib.ListN.{length};
 ghost use Rattle.table.specs.Layout as at;
-ghost use Rattle.stream.specs.declared.Asked.{Asked};
-ghost use Rattle.stream.specs.Layout as code;
-ghost use Rattle.stream.specs.Grammar.{asked};
+ghost use Rattle.grammar.specs.declared.Asked.{Asked};
+ghost use Rattle.grammar.specs.Layout as code;
+ghost use Rattle.grammar.specs.Grammar.{asked};
 ghost use Rattle.lines.specs.Layout as line;
 ghost use Rattle.scenario.specs.Format.{format};
 ghost use Rattle.scenario.specs.Decode.{numberFrom};
@@ -36,7 +35,7 @@ pub fn perform(words: &[u32], table: &mut [f32], whole: &mut [u32], results: &mu
     requires { ⌜ (length (now words) ≡ code.CODE-WORDS) × (length (now table) ≡ at.SIZE) × (length (now whole) ≡ at.WHOLE) × (length (now results) ≡ line.RESULTS) × (asked (numberFrom (now words) 0) ≡ Asked.Drive → Counted (now words)) ⌝ }
     ensures { λ r. ⌜ Performs (callOf format (now (words .entry)) (now (table .entry)) (now (whole .entry))) r (now (results .entry)) (now (results .exit)) (now (table .exit)) (now (whole .exit)) ⌝ }
 {
-    let asked = stream::grammar::asked(words[0]);
+    let asked = grammar::fields::asked(words[0]);
     match asked {
         Asked::End => no_call(),
         Asked::Add => {

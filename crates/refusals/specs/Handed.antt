@@ -13,7 +13,7 @@ use Rattle.wheel.specs.declared.RayAnswer.{RayAnswer}
 use Rattle.wheel.specs.declared.RayAnswer.the-variants.{Nothing, Hit, HitUp}
 use Rattle.table.specs.Rows.{vectorList, settingsList, controlsList, chassisList}
 use Rattle.table.specs.Bounds.{allWithin, HANDED}
-use Rattle.refusals.specs.Ranges.{inUnit}
+use Rattle.ranges.specs.Ranges.{inUnit}
 
 -- ---- refusal 2: a number handed in is finite and at most 2^20 in magnitude
 unfoldable pub settingsHanded : Settings → Bool

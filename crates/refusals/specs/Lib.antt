@@ -1,4 +1,3 @@
 pub mod Shape
-pub mod Ranges
 pub mod Handed
 pub mod After

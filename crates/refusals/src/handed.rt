@@ -1,5 +1,4 @@
 // Refusals 2 and 6: the numbers that a call is handed, and the ray answers of a drive.
-use super::ranges;
 use body::Chassis;
 use table::bounds::HANDED;
 use table::layout::WHEELS;

@@ -1,4 +1,3 @@
-// The tests behind document 01's refusal numbers 1, 2, 6 and 10.
+// The tests behind document 01's refusal numbers 1, 2 and 6; those of 10 are in crate `ranges`.
 pub mod shape; // refusal 1
-pub mod ranges; // refusal 10
 pub mod handed; // refusals 2 and 6

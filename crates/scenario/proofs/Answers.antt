@@ -8,7 +8,7 @@ use lib.Dec.{eqb}
 use lib.ListN.{length, getD}
 use lib.Ieee.{Format}
 use Rattle.lists.specs.Pick.{pick}
-use Rattle.stream.specs.Layout as code
+use Rattle.grammar.specs.Layout as code
 use Rattle.scenario.specs.Layout as at
 use Rattle.scenario.specs.Decode.{numberFrom}
 use Rattle.scenario.specs.Frame.{answerFrom, answerWords, answersFrom}

@@ -1,7 +1,7 @@
 -- What two layouts say of one number. In order: the counts that the stream's codes and the lent table share; how wide the numbers are. Assumes nothing.
 use mathlib.Core.Path.{_≡_, refl}
 use Rattle.table.specs.Layout as table
-use Rattle.stream.specs.Layout as code
+use Rattle.grammar.specs.Layout as code
 use Rattle.scenario.specs.Format.{format, widthsOf}
 
 -- an add's floats are a wheel's settings, and those of controls a wheel's controls

@@ -1,7 +1,7 @@
 -- The numbers of the program: each float is a word, its bit pattern. What turns words to numbers, and numbers to words and digits, takes the format first; the functions' contracts give this one. Definitions only.
 use Prim.Native.Nat.{ℕ, _/_}
 use lib.Ieee.{Format, binary32, binary64}
-use Rattle.stream.specs.Layout.{Widths, WIDTHS}
+use Rattle.grammar.specs.Layout.{Widths, WIDTHS}
 
 abbrev pub format : Format
 format = binary32

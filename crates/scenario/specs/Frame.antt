@@ -9,7 +9,7 @@ use Rattle.lists.specs.Counted.{listed}
 use Rattle.wheel.specs.declared.RayAnswer.{RayAnswer}
 use Rattle.wheel.specs.declared.RayAnswer.the-variants.{Nothing, Hit, HitUp}
 use Rattle.table.specs.Layout as table
-use Rattle.stream.specs.Layout as code
+use Rattle.grammar.specs.Layout as code
 use Rattle.scenario.specs.Layout as at
 use Rattle.scenario.specs.Decode.{numberFrom, floatFrom, vectorFrom}
 

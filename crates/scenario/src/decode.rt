@@ -11,7 +11,7 @@ use wheel::Settings;
 ghost use mathlib.Core.Path.{_≡_};
 ghost use Prim.Native.Nat.{_+_, _<_, _≤_};
 ghost use lib.ListN.{length};
-ghost use Rattle.stream.specs.Layout as code;
+ghost use Rattle.grammar.specs.Layout as code;
 ghost use Rattle.scenario.specs.Format.{format};
 ghost use Rattle.scenario.specs.Decode.{floatFrom, floatsFrom, vectorFrom, settingsFrom, wheelFrom, controlsFrom, chassisFrom};
 

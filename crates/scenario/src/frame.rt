@@ -1,9 +1,9 @@
 // The lists of a drive, read from its words.
 use super::decode;
 use super::layout::*;
-use stream::layout::DYNAMIC;
-use stream::layout::HIT;
-use stream::layout::HIT_UP;
+use grammar::layout::DYNAMIC;
+use grammar::layout::HIT;
+use grammar::layout::HIT_UP;
 use table::layout::BODY;
 use table::layout::WHEELS;
 use wheel::RayAnswer;
@@ -13,7 +13,7 @@ ghost use Prim.Native.Nat.{_+_, _*_, _<_, _≤_};
 ghost use Rattle.lists.specs.Part.{paste};
 ghost use Rattle.wheel.specs.declared.RayAnswer.the-variants.{Nothing};
 ghost use Rattle.table.specs.Layout as table;
-ghost use Rattle.stream.specs.Layout as code;
+ghost use Rattle.grammar.specs.Layout as code;
 ghost use Rattle.scenario.specs.Layout as at;
 ghost use Rattle.scenario.specs.Format.{format};
 ghost use Rattle.scenario.specs.Frame.{stepFrom, bodyCountFrom, bodyStart, bodyNumberFrom, bodiesFrom, flagFrom, flagsFrom, answerCountFrom, answersStart, hitFrom, hitUpFrom, answerFrom, answerWords, answersFrom};

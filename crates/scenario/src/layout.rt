@@ -1,5 +1,5 @@
 // Where each field of a scenario code stands among its words: the field order of docs/STREAM.md. Word 0 is the code, and each place is counted from the one before it. How many floats a field has, and how many fields there are at most, the stream's layout says.
-use stream::layout as code;
+use grammar::layout as code;
 
 // The first field: an add has the settings from there on, an aim the chassis, in the order in which the table keeps them.
 pub const FIRST: usize = 1;

@@ -1,9 +1,5 @@
--- Laws on the program's turns and windows, and what they come to: Windows.
-pub mod Lent
-pub mod Calls
-pub mod Counts
+-- Laws on the program's windows, and what they come to: Windows.
 pub mod Started
-pub mod Taken
 pub mod Running
 pub mod Shifting
 pub mod Windows

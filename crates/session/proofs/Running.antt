@@ -12,20 +12,20 @@ use lib.Seq.{take-all, drop-drop}
 use Rattle.lists.specs.Pick.{pick}
 use Rattle.table.specs.Layout as places
 use Rattle.stream.specs.declared.Code.{Code}
-use Rattle.stream.specs.Layout as code
+use Rattle.grammar.specs.Layout as code
 use Rattle.stream.specs.Code.{shown, readCode}
 use Rattle.stream.proofs.Readings.{took-code}
 use Rattle.lines.specs.Layout.{lineBytes, LINE-BYTES}
 use Rattle.lists.specs.Puts.{Puts}
 use Rattle.lists.proofs.Puts.{paste-nil, puts-join}
 use Rattle.scenario.specs.Format.{format, widthsOf, hexDigitsOf}
-use Rattle.session.specs.declared.Next.{Next}
-use Rattle.session.specs.declared.Turn.{Turn}
+use Rattle.turns.specs.declared.Next.{Next}
+use Rattle.turns.specs.declared.Turn.{Turn}
 use Rattle.session.specs.declared.Stands.{Stands}
-use Rattle.session.specs.Program.{Car, car, padded}
-use Rattle.session.specs.Turns.{following, called, malformed, turnedBy, turnOf, Turns}
+use Rattle.turns.specs.Car.{Car, car, padded}
+use Rattle.turns.specs.Turns.{following, called, malformed, turnedBy, turnOf, Turns}
 use Rattle.session.specs.Runs.{Ran, ran, behind, ranBy, runOn, runOf, Runs}
-use Rattle.session.proofs.Lent.{puts-within}
+use Rattle.turns.proofs.Lent.{puts-within}
 
 -- ---- one code
 -- what follows is another code, n bytes on

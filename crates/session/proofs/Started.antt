@@ -11,8 +11,9 @@ use Rattle.real.specs.Number.{zero}
 use Rattle.table.specs.Layout as places
 use Rattle.refusals.specs.Shape.{sizesOk, axesOk}
 use Rattle.refusals.specs.After.{After, after, settled}
-use Rattle.vehicle.specs.SetUp.{refuseSetUp, setUp}
-use Rattle.session.specs.Program.{car, startCar}
+use Rattle.set_up.specs.SetUp.{refuseSetUp, setUp}
+use Rattle.turns.specs.Car.{car}
+use Rattle.session.specs.Program.{startCar}
 
 set-up-done : (t : List Float) (m : List ℕ) → length t ≡ places.SIZE → length m ≡ places.WHOLE → setUp t m 1 0 ≡ after 0 (replicate places.SIZE zero) (0 ∷ places.NEW ∷ 1 ∷ 0 ∷ [])
 unfolding setUp refuseSetUp firstFailed sizesOk axesOk settled pick

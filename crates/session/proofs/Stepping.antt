@@ -14,9 +14,9 @@ use Rattle.session.specs.declared.Run.{Run}
 use Rattle.session.specs.declared.Step.{Step}
 use Rattle.session.specs.declared.Stands.{Stands}
 use Rattle.session.specs.Layout.{WINDOW-BYTES}
-use Rattle.session.specs.Program.{Car}
+use Rattle.turns.specs.Car.{Car}
 use Rattle.session.specs.Runs.{Ran, runOf, Runs, Steps}
-use Rattle.session.proofs.Lent.{lent-front, puts-within}
+use Rattle.turns.proofs.Lent.{lent-front, puts-within}
 use Rattle.session.proofs.Windows.{run-goes}
 
 rest-of : (t : List ℕ) (a b : ℕ) → take (b - a) (drop a t) ≡ drop a (take b t)

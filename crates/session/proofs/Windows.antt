@@ -11,21 +11,22 @@ use lib.ListN.{length, drop, length-append, length-drop}
 use lib.Seq.{drop-drop, drop-append-le}
 use Rattle.lists.specs.Pick.{pick}
 use Rattle.stream.specs.declared.Code.{Code}
-use Rattle.stream.specs.Layout as code
+use Rattle.grammar.specs.Layout as code
 use Rattle.stream.specs.Code.{Reading, shown, readCode, decidedCode}
 use Rattle.stream.proofs.Readings.{took-code, decided-code-more, code-bytes-decide}
 use Rattle.lines.specs.Layout.{lineBytes}
 use Rattle.lines.specs.Line.{line, title}
 use Rattle.scenario.specs.Format.{format, widthsOf, hexDigitsOf}
 use Rattle.perform.specs.Call.{callOf}
-use Rattle.session.specs.declared.Next.{Next}
+use Rattle.turns.specs.declared.Next.{Next}
 use Rattle.session.specs.declared.Stands.{Stands}
 use Rattle.session.specs.Layout.{TEXT-BYTES}
-use Rattle.session.specs.Program.{Car, car, startCar, MALFORMED, padded, printedBy, printedOn, printedFrom, printed}
-use Rattle.session.specs.Turns.{turned, following, called, malformed, turnedBy, turnOf}
+use Rattle.turns.specs.Car.{Car, car, MALFORMED, padded}
+use Rattle.session.specs.Program.{startCar, printedBy, printedOn, printedFrom, printed}
+use Rattle.turns.specs.Turns.{turned, following, called, malformed, turnedBy, turnOf}
 use Rattle.session.specs.Runs.{Ran, ran, behind, ranBy, runOn, runOf, printedAfter}
 use Rattle.session.specs.Served.{joined, Serving, pulled, servedBy, served, program}
-use Rattle.session.proofs.Counts.{shown-padded}
+use Rattle.turns.proofs.Counts.{shown-padded}
 use Rattle.session.proofs.Running.{Took, turn-took, run-full, run-by}
 
 -- ---- more turns print nothing more

@@ -1,6 +1,5 @@
 pub mod Layout
 pub mod Program
 pub mod Start
-pub mod Turns
 pub mod Runs
 pub mod Served

@@ -2,41 +2,25 @@
 use Prim.Native.Nat.{ℕ, zero, suc}
 use mathlib.Core.List.{List, [], _++_}
 use lib.Dec.{eqb}
-use lib.Ieee.{Float, Format}
+use lib.Ieee.{Format}
 use lib.ListN.{length, drop, replicate}
 use Rattle.lists.specs.Pick.{pick}
-use Rattle.lists.specs.Part.{paste}
 use Rattle.real.specs.Number.{zero as noNumber}
 use Rattle.table.specs.Layout as at
-use Rattle.vehicle.specs.SetUp.{setUp}
+use Rattle.set_up.specs.SetUp.{setUp}
 use Rattle.stream.specs.declared.Code.{Code}
-use Rattle.stream.specs.Layout as code
+use Rattle.grammar.specs.Layout as code
 use Rattle.stream.specs.Code.{shown, readCode}
 use Rattle.lines.specs.Line.{line, title}
 use Rattle.scenario.specs.Format.{widthsOf, hexDigitsOf}
 use Rattle.perform.specs.Call.{callOf}
-
--- what the program keeps: the table and the whole numbers
-pub record Car : Type 0 where
-  pub table : List Float
-  pub whole : List ℕ
-
-abbrev pub car : List Float → List ℕ → Car
-car t m = record { table = t; whole = m }
+use Rattle.turns.specs.Car.{Car, car, MALFORMED, padded}
 
 -- "The table starts set up with axes 1 and 0."
 unfoldable pub startCar : Car
 startCar =
     let x = setUp (replicate at.SIZE noNumber) (replicate at.WHOLE 0) 1 0 in
     car (x .table) (x .whole)
-
--- "A malformed place gives 9 and stops."
-abbrev pub MALFORMED : ℕ
-MALFORMED = 9
-
--- the words of a code, with zeros behind them
-unfoldable pub padded : List ℕ → List ℕ
-padded l = paste (replicate code.CODE-WORDS 0) 0 l
 
 -- what is printed from a code on, by what stands at the start of the bytes; `on` prints what follows it. An end before code 0 is a malformed place too.
 unfoldable pub printedBy : Format → (Car → List ℕ → List ℕ) → Code → List ℕ → Car → List ℕ → List ℕ

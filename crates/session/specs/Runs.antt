@@ -10,12 +10,13 @@ use Rattle.lists.specs.Pick.{pick}
 use Rattle.lists.specs.Puts.{Puts}
 use Rattle.lines.specs.Layout.{lineBytes}
 use Rattle.scenario.specs.Format.{hexDigitsOf}
-use Rattle.session.specs.declared.Next.{Next}
+use Rattle.turns.specs.declared.Next.{Next}
 use Rattle.session.specs.declared.Stands.{Stands}
 use Rattle.session.specs.declared.Run.{Run}
 use Rattle.session.specs.declared.Step.{Step}
-use Rattle.session.specs.Program.{Car, printedFrom}
-use Rattle.session.specs.Turns.{Turned, turnOf}
+use Rattle.turns.specs.Car.{Car}
+use Rattle.session.specs.Program.{printedFrom}
+use Rattle.turns.specs.Turns.{Turned, turnOf}
 
 -- ---- the codes of one window
 -- what a run makes: what is printed, the car afterwards, how many bytes are done with, and how it stands

@@ -6,7 +6,8 @@ use lib.Ieee.{Format}
 use lib.ListN.{drop}
 use Rattle.lines.specs.Line.{title}
 use Rattle.session.specs.declared.Stands.{Stands}
-use Rattle.session.specs.Program.{Car, startCar}
+use Rattle.turns.specs.Car.{Car}
+use Rattle.session.specs.Program.{startCar}
 use Rattle.session.specs.Runs.{Ran, runOf}
 
 -- blocks as one list

@@ -6,7 +6,8 @@ use lib.Ieee.{Float}
 use Rattle.lists.specs.Puts.{Puts}
 use Rattle.lines.specs.Line.{title}
 use Rattle.session.specs.Layout.{TEXT-BYTES}
-use Rattle.session.specs.Program.{car, startCar}
+use Rattle.turns.specs.Car.{car}
+use Rattle.session.specs.Program.{startCar}
 
 -- the first line is put, and the table and the whole numbers are set up
 pub record Starts (r : ℕ) (before after : List ℕ) (t : List Float) (m : List ℕ) : Type 0 where

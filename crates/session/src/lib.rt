@@ -1,22 +1,8 @@
 // Document 01, "Scenario program": the program on slices. The bytes of the stream come in windows of any size, and the text goes out in blocks.
 pub mod layout; // the numbers of the program
 pub mod start; // how it starts
-pub mod turns; // one code
 pub mod runs; // the codes of a window
 pub mod window; // a window that is kept for the next bytes
-
-// What follows a code: another one, so many bytes on; nothing; or more bytes have to come before it can be told.
-pub enum Next {
-    On(usize),
-    Ended,
-    More,
-}
-
-// A code that was taken: the place behind its text, and what follows it.
-pub struct Turn {
-    pub at: usize,
-    pub next: Next,
-}
 
 // How a run of codes stands: the program has ended; more bytes have to come; or the text has to be written out.
 pub enum Stands {

@@ -1,14 +1,13 @@
 // The codes of a window of the stream, one after another.
-use super::Next;
 use super::Run;
 use super::Stands;
-use super::turns;
 use lines::layout::LINE_BYTES;
+use turns::Next;
 ghost use mathlib.Core.Path.{_≡_};
 ghost use lib.ListN.{length};
 ghost use Rattle.table.specs.Layout as places;
 ghost use Rattle.scenario.specs.Format.{format};
-ghost use Rattle.session.specs.Program.{car};
+ghost use Rattle.turns.specs.Car.{car};
 ghost use Rattle.session.specs.Runs.{Runs, runOf};
 
 // Takes codes from the start of the bytes while they are whole, the program has not ended, and the buffer has room for another line.

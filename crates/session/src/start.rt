@@ -10,6 +10,6 @@ ghost use Rattle.session.specs.Start.{Starts};
 pub fn start(table: &mut [f32; SIZE], whole: &mut [u32; WHOLE], out: &mut [u8; TEXT_BYTES]) -> usize
     ensures { λ r. ⌜ Starts r (now (out .entry)) (now (out .exit)) (now (table .exit)) (now (whole .exit)) ⌝ }
 {
-    vehicle::set_up::set_up(table, whole, UP, FORWARD);
+    set_up::set_up(table, whole, UP, FORWARD);
     lines::put_title(out, 0)
 }

@@ -13,7 +13,7 @@ ghost use Rattle.table.specs.Layout as places;
 ghost use Rattle.lists.specs.Puts.{Puts};
 ghost use Rattle.scenario.specs.Format.{format};
 ghost use Rattle.session.specs.Layout as layout;
-ghost use Rattle.session.specs.Program.{car};
+ghost use Rattle.turns.specs.Car.{car};
 ghost use Rattle.session.specs.Runs.{Steps, runOf};
 
 // Moves the bytes from one place up to another to the window's start, and answers how many they are.

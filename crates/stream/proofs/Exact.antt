@@ -13,15 +13,16 @@ use lib.Seq.{take-add}
 use Rattle.lists.specs.Pick.{pick}
 use Rattle.lists.specs.All.{all}
 use Rattle.lists.proofs.Picks.{pick-true}
-use Rattle.stream.specs.declared.Number.{Number}
-use Rattle.stream.specs.declared.Verdict.{Verdict}
-use Rattle.stream.specs.Layout.{GROUP, Widths, last, CODE-WORDS}
-use Rattle.stream.specs.Number.{isByte, badGroup, gained, readGroups, readNumber, writeGroups, writeNumber}
+use Rattle.numbers.specs.declared.Number.{Number}
+use Rattle.grammar.specs.declared.Verdict.{Verdict}
+use Rattle.numbers.specs.Layout.{GROUP, last}
+use Rattle.grammar.specs.Layout.{Widths, CODE-WORDS}
+use Rattle.numbers.specs.Number.{isByte, badGroup, gained, readGroups, readNumber, writeGroups, writeNumber}
 use Rattle.stream.specs.declared.Code.{Code}
-use Rattle.stream.specs.Grammar.{widthAt, next, verdict, reached, judge}
+use Rattle.grammar.specs.Grammar.{widthAt, next, verdict, reached, judge}
 use Rattle.stream.specs.Code.{Reading, _reads_, Reader, after, readOn, readCode, writeWords, writeCode, fitting, IsCode}
-use Rattle.stream.proofs.Groups.{not-last, by-groups}
-use Rattle.stream.proofs.Outcome.{took, short-no-value, bad-no-value}
+use Rattle.numbers.proofs.Groups.{not-last, by-groups}
+use Rattle.numbers.proofs.Outcome.{took, short-no-value, bad-no-value}
 use Rattle.stream.proofs.Readings.{by-words, short-not-whole, malformed-not-whole}
 
 -- the groups of a number m, of which the first n - k bytes of l are written, with v for the k before them

@@ -7,16 +7,17 @@ use native.Mathlib.Nat.{le-refl, suc-add, mul-le-mul-right}
 use native.Mathlib.Omega.{arith}
 use lib.ListN.{length, length-drop}
 use lib.Seq.{drop-append-le}
-use Rattle.stream.specs.declared.Number.{Number}
-use Rattle.stream.specs.declared.Place.{Place}
-use Rattle.stream.specs.declared.Verdict.{Verdict}
+use Rattle.numbers.specs.declared.Number.{Number}
+use Rattle.grammar.specs.declared.Place.{Place}
+use Rattle.grammar.specs.declared.Verdict.{Verdict}
 use Rattle.stream.specs.declared.Code.{Code}
-use Rattle.stream.specs.Layout.{Widths, last, CODE-WORDS, codeBytes}
-use Rattle.stream.specs.Number.{readNumber, decidedNumber}
-use Rattle.stream.specs.Grammar.{widthAt, start, next, verdict}
+use Rattle.grammar.specs.Layout.{Widths, CODE-WORDS, codeBytes}
+use Rattle.numbers.specs.Layout.{last}
+use Rattle.numbers.specs.Number.{readNumber, decidedNumber}
+use Rattle.grammar.specs.Grammar.{widthAt, start, next, verdict}
 use Rattle.stream.specs.Code.{Reading, _reads_, shown, Reader, after, placed, found, readOn, readCode, decidedCode}
-use Rattle.stream.proofs.Outcome.{took, decided-number-more, not-short}
-use Rattle.stream.proofs.Places.{width-within, most, most-start, next-less, verdict-start}
+use Rattle.numbers.proofs.Outcome.{took, decided-number-more, not-short}
+use Rattle.grammar.proofs.Places.{width-within, most, most-start, next-less, verdict-start}
 
 -- what the number at a place makes of the reading
 module _ (widths : Widths) (k : ℕ) (s : Reader) where

@@ -13,17 +13,18 @@ use lib.ListN.{length, take, drop, length-append, length-take, take-append-drop}
 use lib.Seq.{drop-at}
 use Rattle.lists.proofs.Picks.{pick-true}
 use Rattle.lists.specs.Pick.{pick}
-use Rattle.stream.specs.declared.Number.{Number}
+use Rattle.numbers.specs.declared.Number.{Number}
 use Rattle.stream.specs.declared.Code.{Code}
-use Rattle.stream.specs.Layout.{GROUP, GROUP-BITS, Widths, last, lastMost, CODE-WORDS}
-use Rattle.stream.specs.Number.{hasBits, badGroup, gained, readGroups, readNumber, decidedNumber, writeGroups, writeNumber}
-use Rattle.stream.specs.declared.Verdict.{Verdict}
-use Rattle.stream.specs.Grammar.{widthAt, next, verdict, reached, judge}
+use Rattle.numbers.specs.Layout.{GROUP, GROUP-BITS, last, lastMost}
+use Rattle.grammar.specs.Layout.{Widths, CODE-WORDS}
+use Rattle.numbers.specs.Number.{hasBits, badGroup, gained, readGroups, readNumber, decidedNumber, writeGroups, writeNumber}
+use Rattle.grammar.specs.declared.Verdict.{Verdict}
+use Rattle.grammar.specs.Grammar.{widthAt, next, verdict, reached, judge}
 use Rattle.stream.specs.Code.{Reading, _reads_, Reader, after, placed, readOn, readCode, decidedCode, writeWords, writeCode, fitting, IsCode}
-use Rattle.stream.proofs.Outcome.{took, decided-number-more}
-use Rattle.stream.proofs.Places.{most, most-start, next-less, verdict-start, closed-end}
+use Rattle.numbers.proofs.Outcome.{took, decided-number-more}
+use Rattle.grammar.proofs.Places.{most, most-start, next-less, verdict-start, closed-end}
 use Rattle.stream.proofs.Readings.{on-word, took-code, decided-code-more}
-use Rattle.stream.proofs.Groups.{reach, most-small, group-last, group-more}
+use Rattle.numbers.proofs.Groups.{reach, most-small, group-last, group-more}
 
 -- where no list that is read as b is shorter, and an outcome that is decided stays, a proper beginning of b is not decided
 cut-short : {R : Type 0} (read : List ℕ → R) (decided : R → Bool) (b : List ℕ) → ((a m : List ℕ) → decided (read a) ≡ true → read (a ++ m) ≡ read a)

@@ -7,16 +7,16 @@ use native.Mathlib.Omega.{arith}
 use lib.ListN.{length, take, drop, set, take-append-drop, length-drop, length-set}
 use lib.Seq.{take-all, length-take-le, take-suc-set, drop-set-lt, drop-drop}
 use Rattle.lists.specs.Part.{paste}
-use Rattle.stream.specs.declared.Number.{Number}
-use Rattle.stream.specs.declared.Place.{Place}
-use Rattle.stream.specs.declared.Verdict.{Verdict}
+use Rattle.numbers.specs.declared.Number.{Number}
+use Rattle.grammar.specs.declared.Place.{Place}
+use Rattle.grammar.specs.declared.Verdict.{Verdict}
 use Rattle.stream.specs.declared.Code.{Code}
-use Rattle.stream.specs.Layout.{Widths, CODE-WORDS}
-use Rattle.stream.specs.Number.{readNumber}
-use Rattle.stream.specs.Grammar.{widthAt, start, next, verdict}
+use Rattle.grammar.specs.Layout.{Widths, CODE-WORDS}
+use Rattle.numbers.specs.Number.{readNumber}
+use Rattle.grammar.specs.Grammar.{widthAt, start, next, verdict}
 use Rattle.stream.specs.Code.{_reads_, shown, Reader, placed, found, readOn, readCode, Reads}
-use Rattle.stream.proofs.Places.{most, most-start, next-less, verdict-start}
-use Rattle.stream.proofs.Outcome.{took}
+use Rattle.grammar.proofs.Places.{most, most-start, next-less, verdict-start}
+use Rattle.numbers.proofs.Outcome.{took}
 
 abbrev standing : Place → List ℕ → ℕ → List ℕ → Reader
 standing p l taken rest = record { place = p; words = l; taken = taken; rest = rest }

@@ -6,13 +6,13 @@ use mathlib.Core.Path.{_≡_}
 use lib.ListN.{length, getD, drop}
 use Rattle.lists.specs.Pick.{pick}
 use Rattle.lists.specs.Part.{paste}
-use Rattle.stream.specs.declared.Number.{Number}
-use Rattle.stream.specs.declared.Place.{Place}
-use Rattle.stream.specs.declared.Verdict.{Verdict}
+use Rattle.numbers.specs.declared.Number.{Number}
+use Rattle.grammar.specs.declared.Place.{Place}
+use Rattle.grammar.specs.declared.Verdict.{Verdict}
 use Rattle.stream.specs.declared.Code.{Code}
-use Rattle.stream.specs.Layout.{Widths, CODE-WORDS}
-use Rattle.stream.specs.Number.{hasBits, readNumber, writeNumber}
-use Rattle.stream.specs.Grammar.{widthAt, start, next, verdict, judge}
+use Rattle.grammar.specs.Layout.{Widths, CODE-WORDS}
+use Rattle.numbers.specs.Number.{hasBits, readNumber, writeNumber}
+use Rattle.grammar.specs.Grammar.{widthAt, start, next, verdict, judge}
 
 -- the words that were read, and the outcome
 pub record Reading : Type 0 where

@@ -1,4 +1,1 @@
-pub mod Layout
-pub mod Number
-pub mod Grammar
 pub mod Code

@@ -1,13 +1,11 @@
 // Document 01, "Scenario program": one code.
 use super::Code;
-use super::Number;
-use super::Verdict;
-use super::grammar;
-use super::layout::*;
-use super::numbers;
+use grammar::Verdict;
+use grammar::layout::CODE_WORDS;
+use numbers::Number;
 ghost use mathlib.Core.Path.{_≡_};
 ghost use lib.ListN.{length, take};
-ghost use Rattle.stream.specs.Layout as layout;
+ghost use Rattle.grammar.specs.Layout as layout;
 ghost use Rattle.stream.specs.Code as code;
 
 // The code that the first n words belong to, 0 where there are none.
@@ -23,18 +21,18 @@ fn read_words(bytes: &[u8], words: &mut [u32]) -> Code
     requires { ⌜ length (now words) ≡ layout.CODE-WORDS ⌝ }
     ensures { λ r. ⌜ code.Reads layout.WIDTHS (now (bytes .entry)) (now (words .entry)) (now (words .exit)) r ⌝ }
 {
-    let mut place = grammar::start();
+    let mut place = grammar::fields::start();
     let mut n = 0usize;
     let mut taken = 0usize;
     let code = loop {
-        let number = numbers::read_number(grammar::width_at(place), &bytes[taken..]);
+        let number = numbers::read_number(grammar::fields::width_at(place), &bytes[taken..]);
         match number {
             Number::Value(word, length) => {
                 words[n] = word;
                 n += 1usize;
                 taken += length;
-                place = grammar::next(place, word);
-                let verdict = grammar::verdict(place);
+                place = grammar::fields::next(place, word);
+                let verdict = grammar::fields::verdict(place);
                 match verdict {
                     Verdict::More => {}
                     Verdict::Whole => break Code::Whole(n, taken),

@@ -1,7 +1,7 @@
 -- `exports::vehicle_add_wheel` meets its contract: the settings have not their length, or the call decides. Assumes nothing.
 use borrow.Author.Needs.{needs}
 use Rattle.exports.specs.Calls.{flatAdd}
-use Rattle.exports.proofs.Ending.{refused-of-length, settled-of-length, settled-of-call}
+use Rattle.flat_out.proofs.Ending.{refused-of-length, settled-of-length, settled-of-call}
 use Rattle.exports.proofs.vehicle_add_wheel.Statement.{statement}
 use Rattle.exports.proofs.vehicle_add_wheel.Tie as tie
 

@@ -1,7 +1,7 @@
 -- `exports::vehicle_aim` meets its contract: a list has not its length, or the call decides. Assumes nothing.
 use borrow.Author.Needs.{needs}
 use Rattle.exports.specs.Calls.{flatAim}
-use Rattle.exports.proofs.Ending.{refused-of-length, settled-of-length, settled-of-call, flattened-of-call}
+use Rattle.flat_out.proofs.Ending.{refused-of-length, settled-of-length, settled-of-call, flattened-of-call}
 use Rattle.exports.proofs.vehicle_aim.Statement.{statement}
 use Rattle.exports.proofs.vehicle_aim.Tie as tie
 

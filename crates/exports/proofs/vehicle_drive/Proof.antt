@@ -3,8 +3,8 @@ use borrow.Author.Needs.{needs}
 use mathlib.Core.Path.{refl, sym, _∙_}
 use Rattle.refusals.proofs.Settled.{settled-refused, settled-done}
 use Rattle.exports.specs.Calls.{flatDrive}
-use Rattle.exports.proofs.Ending.{refused-of-length, settled-of-length, flattened-of-call}
-use Rattle.exports.proofs.Fitting.{lists-fit}
+use Rattle.flat_out.proofs.Ending.{refused-of-length, settled-of-length, flattened-of-call}
+use Rattle.flat_in.proofs.Fitting.{lists-fit}
 use Rattle.exports.proofs.vehicle_drive.Statement.{statement}
 use Rattle.exports.proofs.vehicle_drive.Tie as tie
 

@@ -1,7 +1,7 @@
 -- `exports::vehicle_read_wheel` meets its contract: the results have not their length, or the call decides. Assumes nothing.
 use borrow.Author.Needs.{needs}
 use Rattle.exports.specs.Calls.{flatRead}
-use Rattle.exports.proofs.Ending.{refused-of-length, settled-of-length, settled-of-call, flattened-of-call}
+use Rattle.flat_out.proofs.Ending.{refused-of-length, settled-of-length, settled-of-call, flattened-of-call}
 use Rattle.exports.proofs.vehicle_read_wheel.Statement.{statement}
 use Rattle.exports.proofs.vehicle_read_wheel.Tie as tie
 

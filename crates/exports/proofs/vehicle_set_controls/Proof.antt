@@ -1,7 +1,7 @@
 -- `exports::vehicle_set_controls` meets its contract: the controls have not their length, or the call decides. Assumes nothing.
 use borrow.Author.Needs.{needs}
 use Rattle.exports.specs.Calls.{flatControls}
-use Rattle.exports.proofs.Ending.{refused-of-length, settled-of-length, settled-of-call}
+use Rattle.flat_out.proofs.Ending.{refused-of-length, settled-of-length, settled-of-call}
 use Rattle.exports.proofs.vehicle_set_controls.Statement.{statement}
 use Rattle.exports.proofs.vehicle_set_controls.Tie as tie
 

@@ -1,9 +1,9 @@
 -- `perform::perform` meets its contract: the definition, replayed as the code runs. Assumes nothing.
 use borrow.Author.Needs.{needs}
 use mathlib.Core.Path.{_≡_, sym, _∙_}
-use Rattle.vehicle.specs.Controls.{setControls}
-use Rattle.stream.specs.declared.Asked.{Asked}
-use Rattle.stream.specs.Grammar.{asked}
+use Rattle.set_controls.specs.Controls.{setControls}
+use Rattle.grammar.specs.declared.Asked.{Asked}
+use Rattle.grammar.specs.Grammar.{asked}
 use Rattle.scenario.specs.Format.{format}
 use Rattle.scenario.specs.Decode.{numberFrom, wheelFrom, controlsFrom}
 use Rattle.perform.specs.Call.{callFor, callOf}

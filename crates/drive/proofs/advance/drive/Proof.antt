@@ -4,7 +4,7 @@ use mathlib.Core.Path.{sym, _∙_}
 use borrow.Author.Needs.{needs}
 use Rattle.wheel.specs.Ray.{answerAt}
 use Rattle.drive.specs.Drive.{driveOf}
-use Rattle.drive.proofs.Accepted.{FrameTested, early-tests-say}
+use Rattle.early.proofs.Accepted.{FrameTested, early-tests-say}
 use Rattle.drive.proofs.Tries.{drive-accepted, drive-refused-late, drive-refused}
 use Rattle.drive.proofs.advance.drive.Statement.{statement}
 use Rattle.drive.proofs.advance.drive.Tie as tie

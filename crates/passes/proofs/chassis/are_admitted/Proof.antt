@@ -8,7 +8,7 @@ use lib.Ieee.{binary32}
 use Rattle.lists.specs.Counted.{every}
 use Rattle.lists.proofs.Picks.{told}
 use Rattle.lists.proofs.Turns.{every-yes, every-no, every-end}
-use Rattle.passes.specs.Frame.{groundedAt}
+use Rattle.ground.specs.Frame.{groundedAt}
 use Rattle.wheel.specs.Ray.{answerAt}
 use Rattle.passes.specs.Passes.{stored, admittedAt, demandsAdmitted}
 use Rattle.passes.proofs.chassis.are_admitted.Statement.{statement}

@@ -4,7 +4,7 @@ use Prim.Native.Nat.{_-_}
 use native.Mathlib.Omega.{arith}
 use lib.Ieee.{binary32}
 use Rattle.wheel.specs.Ray.{answerAt}
-use Rattle.passes.specs.Frame.{groundedAt}
+use Rattle.ground.specs.Frame.{groundedAt}
 use Rattle.passes.specs.Passes.{changed, spinAt, spins}
 use Rattle.passes.proofs.Laws.{Passing, passing-start, passing-again, passing-done}
 use Rattle.passes.proofs.rows.spin_pass.Statement.{statement}

@@ -1,7 +1,7 @@
 -- `perform::calls::call_read` meets its contract: refused, or its results are put. Assumes nothing.
 use borrow.Author.Needs.{needs}
 use Rattle.scenario.specs.Format.{format}
-use Rattle.perform.specs.Call.{readResults}
+use Rattle.replies.specs.Replies.{readResults}
 use Rattle.perform.proofs.Told.{told-refused, told-accepted}
 use Rattle.perform.proofs.calls.call_read.Statement.{statement}
 use Rattle.perform.proofs.calls.call_read.Tie as tie

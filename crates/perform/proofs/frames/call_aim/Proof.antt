@@ -6,11 +6,11 @@ use mathlib.Core.Path.{_≡_}
 use Rattle.table.specs.Layout as at
 use Rattle.refusals.specs.Shape.{countOf}
 use Rattle.refusals.specs.After.{after}
-use Rattle.drive.specs.Aim.{aimOf}
-use Rattle.drive.proofs.Accepted.{accepted-aim-says}
+use Rattle.aim.specs.Aim.{aimOf}
+use Rattle.aim.proofs.Accepted.{accepted-aim-says}
 use Rattle.scenario.specs.Format.{format}
 use Rattle.scenario.specs.Decode.{chassisFrom}
-use Rattle.perform.specs.Call.{aimResults}
+use Rattle.replies.specs.Replies.{aimResults}
 use Rattle.perform.proofs.Told.{told-refused, told-accepted}
 use Rattle.perform.proofs.frames.call_aim.Statement.{statement}
 use Rattle.perform.proofs.frames.call_aim.Tie as tie

@@ -1,7 +1,7 @@
 -- `perform::frames::call_drive` meets its contract: refused, or its results are put. Assumes nothing.
 use borrow.Author.Needs.{needs}
 use Rattle.scenario.specs.Format.{format}
-use Rattle.perform.specs.Call.{driveResults}
+use Rattle.replies.specs.Replies.{driveResults}
 use Rattle.perform.proofs.Told.{told-refused, told-accepted}
 use Rattle.perform.proofs.frames.call_drive.Statement.{statement}
 use Rattle.perform.proofs.frames.call_drive.Tie as tie

@@ -4,7 +4,7 @@ use native.Mathlib.Omega.{arith}
 use Prim.Native.Nat.{_+_, _*_, _-_, _≤_}
 use lib.ListN.{getD}
 use Rattle.lists.proofs.Filling.{Filling, fill-none, fill-more, fill-all}
-use Rattle.stream.specs.Layout as code
+use Rattle.grammar.specs.Layout as code
 use Rattle.scenario.specs.Layout as at
 use Rattle.scenario.specs.Format.{format}
 use Rattle.scenario.specs.Frame.{answersFrom}

@@ -4,7 +4,7 @@ use mathlib.Core.Path.{_≡_}
 use native.Mathlib.Omega.{arith}
 use lib.ListN.{length}
 use Rattle.session.specs.Layout.{WINDOW-BYTES}
-use Rattle.session.proofs.Lent.{puts-within}
+use Rattle.turns.proofs.Lent.{puts-within}
 use Rattle.session.proofs.window.drop_front.Statement.{statement}
 use Rattle.session.proofs.window.drop_front.Tie as tie
 

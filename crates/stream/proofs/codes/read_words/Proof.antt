@@ -4,11 +4,11 @@ use native.Mathlib.Omega.{arith}
 use Prim.Native.Nat.{_-_}
 use mathlib.Core.Path.{_≡_, sym, _∙_}
 use lib.ListN.{drop, length-set}
-use Rattle.stream.specs.declared.Number.{Number}
-use Rattle.stream.specs.Layout.{WIDTHS, CODE-WORDS}
-use Rattle.stream.specs.Number.{readNumber}
-use Rattle.stream.specs.Grammar.{widthAt}
-use Rattle.stream.proofs.Places.{width-within}
+use Rattle.numbers.specs.declared.Number.{Number}
+use Rattle.grammar.specs.Layout.{WIDTHS, CODE-WORDS}
+use Rattle.numbers.specs.Number.{readNumber}
+use Rattle.grammar.specs.Grammar.{widthAt}
+use Rattle.grammar.proofs.Places.{width-within}
 use Rattle.stream.proofs.Words.{Words, none-read, has-room, number-at, taken-within, ends-short, ends-bad, ends-whole, ends-wrong, one-more}
 use Rattle.stream.proofs.codes.read_words.Statement.{statement}
 use Rattle.stream.proofs.codes.read_words.Tie as tie

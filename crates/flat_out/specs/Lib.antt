@@ -1,0 +1,3 @@
+pub mod Layout
+pub mod Ends
+pub mod Results

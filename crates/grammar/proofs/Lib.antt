@@ -1,0 +1,2 @@
+-- Laws on the places of a code.
+pub mod Places

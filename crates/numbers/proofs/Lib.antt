@@ -1,0 +1,3 @@
+-- Laws on one number, and on its outcome.
+pub mod Groups
+pub mod Outcome

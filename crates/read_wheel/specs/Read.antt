@@ -1,0 +1,67 @@
+-- Document 01, "What a vehicle keeps". Read a wheel: only when driven. It gives centre, world direction, world axle, suspension length, force,
+-- forward and side impulse, skid and rotation. Definitions only.
+use Prim.Native.Nat.{ℕ}
+use mathlib.Core.List.{List, [], _∷_, _++_}
+use lib.Dec.{eqb, ltb}
+use lib.Ieee.{Float}
+use Rattle.lists.specs.Refusal.{_or_, firstFailed}
+use Rattle.real.specs.Number.{zero}
+use Rattle.vector.specs.Arithmetic.{zeroV}
+use Rattle.wheel.specs.declared.Wheel.{Wheel}
+use Rattle.table.specs.Layout as at
+use Rattle.table.specs.Rows.{vectorList, wheelAt}
+use Rattle.table.specs.Bounds.{storedWithin}
+use Rattle.refusals.specs.Shape.{countOf, markOf, shapeOk}
+use Rattle.refusals.specs.After.{After, after, settled}
+use Rattle.read_wheel.specs.declared.Reading.{Reading}
+
+unfoldable pub refuseRead : List Float → List ℕ → ℕ → ℕ
+refuseRead t m i =
+    firstFailed
+    (shapeOk t m or 1
+    ∷ ltb i (countOf m) or 4
+    ∷ eqb (markOf m) at.DRIVEN or 5
+    ∷ storedWithin t (countOf m) or 2
+    ∷ [])
+
+unfoldable pub notRead : ℕ → Reading
+notRead number = record {
+  number = number;
+  centre = zeroV;
+  direction = zeroV;
+  axle = zeroV;
+  length = zero;
+  force = zero;
+  forward = zero;
+  side = zero;
+  skid = zero;
+  rotation = zero;
+}
+
+unfoldable pub readingOf : Wheel → Reading
+readingOf w = record {
+  number = 0;
+  centre = w .place .centre;
+  direction = w .place .direction;
+  axle = w .place .axle;
+  length = w .info .length;
+  force = w .motion .force;
+  forward = w .motion .forward;
+  side = w .motion .side;
+  skid = w .motion .skid;
+  rotation = w .motion .rotation;
+}
+
+-- the results of a read, in the order of docs/STREAM.md, and how many they are
+unfoldable pub readingList : Reading → List Float
+readingList r =
+    vectorList (r .centre)
+    ++ vectorList (r .direction)
+    ++ vectorList (r .axle)
+    ++ (r .length ∷ r .force ∷ r .forward ∷ r .side ∷ r .skid ∷ r .rotation ∷ [])
+
+abbrev pub READING : ℕ
+READING = 15
+
+unfoldable pub readWheel : List Float → List ℕ → ℕ → After Reading
+readWheel t m i = settled (refuseRead t m i) notRead (after (readingOf (wheelAt t i)) t m) t m

@@ -1,0 +1,22 @@
+-- Document 01, "Scenario program": the results of an accepted call as words, in the order of docs/STREAM.md. Definitions only.
+use Prim.Native.Nat.{ℕ}
+use mathlib.Core.List.{List, [], _∷_, _++_}
+use lib.Ieee.{Format}
+use lib.ListN.{take}
+use Rattle.read_wheel.specs.declared.Reading.{Reading}
+use Rattle.read_wheel.specs.Read.{readingList}
+use Rattle.aim.specs.declared.Aimed.{Aimed}
+use Rattle.drive.specs.declared.Driven.{Driven}
+use Rattle.aim.specs.Sights.{aimedList}
+use Rattle.drive.specs.Results.{velocityList}
+use Rattle.scenario.specs.Results.{wordsOf, flagWord}
+
+-- an aim of so many wheels
+unfoldable pub aimResults : Format → ℕ → Aimed → List ℕ
+aimResults f wheels r = wordsOf f (aimedList (r .speed) (take wheels (r .sights)))
+
+unfoldable pub driveResults : Format → Driven → List ℕ
+driveResults f r = wordsOf f (velocityList r) ++ (flagWord (r .wake) ∷ [])
+
+unfoldable pub readResults : Format → Reading → List ℕ
+readResults f r = wordsOf f (readingList r)

@@ -1,0 +1,80 @@
+// The results of an accepted call, put as words over the lent ones, in the order of docs/STREAM.md. Each function answers how many they are.
+use aim::Aimed;
+use aim::Sight;
+use aim::sight_numbers;
+use drive::Driven;
+use drive::results::VELOCITIES;
+use drive::results::velocity_numbers;
+use lines::layout::WHEEL_RESULTS;
+use read_wheel::READING;
+use read_wheel::Reading;
+use read_wheel::reading_numbers;
+use scenario::results;
+use table::layout::WHEELS;
+ghost use mathlib.Core.Path.{_≡_};
+ghost use Prim.Native.Nat.{_+_, _≤_};
+ghost use lib.ListN.{length, take};
+ghost use Rattle.lists.specs.Part.{paste};
+ghost use Rattle.lists.specs.Puts.{Puts};
+ghost use Rattle.table.specs.Layout as at;
+ghost use Rattle.lines.specs.Layout as line;
+ghost use Rattle.aim.specs.Sights.{sightList, sightsList};
+ghost use Rattle.scenario.specs.Format.{format};
+ghost use Rattle.scenario.specs.Results.{wordsOf};
+ghost use Rattle.replies.specs.Replies.{aimResults, driveResults, readResults};
+
+// Where a wheel's ray starts, and the ray, from word a on.
+fn put_sight(words: &mut [u32], a: usize, s: Sight)
+    requires { ⌜ a + line.WHEEL-RESULTS ≤ length (now words) ⌝ }
+    ensures { λ _. ⌜ now (words .exit) ≡ paste (now (words .entry)) a (wordsOf format (sightList s)) ⌝ }
+{
+    let numbers = sight_numbers(s);
+    results::put_numbers(words, a, &numbers);
+}
+
+// A sight for each of n wheels, behind the speed.
+fn put_sights(words: &mut [u32], n: usize, sights: [Sight; WHEELS]) -> usize
+    requires { ⌜ (length (now words) ≡ line.RESULTS) × (n ≤ at.WHEELS) ⌝ }
+    ensures { λ k. ⌜ Puts (now (words .entry)) (now (words .exit)) 1 k (wordsOf format (sightsList (take n sights))) ⌝ }
+{
+    let mut a = 1usize;
+    let mut i = 0usize;
+    while i < n {
+        let s = sights[i];
+        put_sight(words, a, s);
+        a += WHEEL_RESULTS;
+        i += 1usize;
+    }
+    a
+}
+
+// The signed speed, and a sight for each of n wheels.
+pub fn put_aimed(words: &mut [u32], n: usize, r: Aimed) -> usize
+    requires { ⌜ (length (now words) ≡ line.RESULTS) × (n ≤ at.WHEELS) ⌝ }
+    ensures { λ k. ⌜ Puts (now (words .entry)) (now (words .exit)) 0 k (aimResults format n r) ⌝ }
+{
+    let sights = r.sights;
+    results::put_float(words, 0, r.speed);
+    put_sights(words, n, sights)
+}
+
+// The six velocities, and the wake flag.
+pub fn put_driven(words: &mut [u32], r: Driven) -> usize
+    requires { ⌜ length (now words) ≡ line.RESULTS ⌝ }
+    ensures { λ k. ⌜ Puts (now (words .entry)) (now (words .exit)) 0 k (driveResults format r) ⌝ }
+{
+    let numbers = velocity_numbers(r);
+    results::put_numbers(words, 0, &numbers);
+    results::put_flag(words, VELOCITIES, r.wake);
+    VELOCITIES + 1
+}
+
+// The numbers of a wheel.
+pub fn put_reading(words: &mut [u32], r: Reading) -> usize
+    requires { ⌜ length (now words) ≡ line.RESULTS ⌝ }
+    ensures { λ k. ⌜ Puts (now (words .entry)) (now (words .exit)) 0 k (readResults format r) ⌝ }
+{
+    let numbers = reading_numbers(r);
+    results::put_numbers(words, 0, &numbers);
+    READING
+}

@@ -1,0 +1,2 @@
+pub mod Car
+pub mod Turns

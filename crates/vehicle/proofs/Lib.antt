@@ -1,2 +1,0 @@
--- The laws that the calls' proofs cite.
-pub mod Accepted

@@ -1,4 +1,0 @@
-pub mod SetUp
-pub mod Add
-pub mod Controls
-pub mod Read
