@@ -36,10 +36,10 @@ use Rattle.wheel.specs.declared.Ground.{Ground}
 use Rattle.wheel.specs.declared.RayAnswer.{RayAnswer}
 use Rattle.wheel.specs.Parts.{withFriction, frictionIn}
 use Rattle.wheel.specs.Ray.{isGrounded}
-use Rattle.wheel.specs.Contact.{directionsOf, relativeVelocity, denominatorsOf}
-use Rattle.wheel.specs.Step as step
-use Rattle.wheel.specs.Step.{suspendedOf, contactForce, wheelForce, wheelLimit, rollingDemand, frictionOf, impulsesOf}
-use Rattle.wheel.proofs.Alone.{impulses-alone}
+use Rattle.road.specs.Contact.{directionsOf, relativeVelocity, denominatorsOf}
+use Rattle.road.specs.Step as step
+use Rattle.road.specs.Step.{suspendedOf, contactForce, wheelForce, wheelLimit, rollingDemand, frictionOf, impulsesOf}
+use Rattle.road.proofs.Alone.{impulses-alone}
 use Rattle.table.specs.Layout as at
 use Rattle.table.specs.Rows.{wheelAt, wheelOf, controlsAt, chassisAt, rowStart}
 use Rattle.table.proofs.Within.{stored-within-says}

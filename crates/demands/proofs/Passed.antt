@@ -17,8 +17,8 @@ use Rattle.wheel.specs.declared.RayAnswer.{RayAnswer}
 use Rattle.wheel.specs.declared.RayAnswer.the-variants.{Nothing, Hit, HitUp}
 use Rattle.wheel.specs.Parts.{withFriction, frictionIn}
 use Rattle.wheel.specs.Ray.{rayCast, hitOf, missOf, isGrounded}
-use Rattle.wheel.specs.Contact.{directionsOf}
-use Rattle.wheel.specs.Step.{suspendedOf, frictionOf, impulsesOf, spunBy, updateRotation}
+use Rattle.road.specs.Contact.{directionsOf}
+use Rattle.road.specs.Step.{suspendedOf, frictionOf, impulsesOf, spunBy, updateRotation}
 use Rattle.table.specs.Layout as at
 use Rattle.table.specs.Rows.{wheelAt, chassisAt}
 use Rattle.table.proofs.Laws.{wheel-stays}

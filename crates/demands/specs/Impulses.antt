@@ -9,7 +9,7 @@ use lib.Ieee.{Float, Format, nan, fits, ne}
 use Rattle.real.specs.Number.{zero}
 use Rattle.wheel.specs.declared.Wheel.{Wheel}
 use Rattle.tyre.specs.Grip.{slides}
-use Rattle.wheel.specs.Step.{wheelLimit}
+use Rattle.road.specs.Step.{wheelLimit}
 use Rattle.table.specs.Rows.{wheelAt, chassisAt}
 use Rattle.ground.specs.Frame.{Frame, groundedAt, groundedWheels}
 use Rattle.passes.specs.Passes.{stored}

@@ -18,7 +18,7 @@ use Rattle.wheel.specs.declared.Directions.{Directions}
 use Rattle.wheel.specs.declared.RayAnswer.{RayAnswer}
 use Rattle.wheel.specs.Parts.{withFriction, frictionIn}
 use Rattle.wheel.specs.Ray.{rayCast}
-use Rattle.wheel.specs.Step.{suspendedOf, updateRotation}
+use Rattle.road.specs.Step.{suspendedOf, updateRotation}
 use Rattle.table.specs.Layout as at
 use Rattle.table.specs.Rows.{wheelAt, putWheel, chassisAt}
 use Rattle.table.proofs.Laws.{length-put, wheel-put, wheel-other, chassis-stays}

@@ -14,7 +14,7 @@ use Rattle.wheel.specs.declared.RayAnswer.{RayAnswer}
 use Rattle.wheel.specs.declared.RayAnswer.the-variants.{Nothing, Hit, HitUp}
 use Rattle.wheel.specs.Parts.{withInfo, withApproach, withForce, withRotation, withFriction}
 use Rattle.wheel.specs.Ray.{rayCast, hitOf, missOf, isGrounded}
-use Rattle.wheel.specs.Step.{wheelForce, suspendedOf, frictionOf, spunBy, updateRotation}
+use Rattle.road.specs.Step.{wheelForce, suspendedOf, frictionOf, spunBy, updateRotation}
 use Rattle.table.specs.Rows.{wheelAt, putWheel}
 use Rattle.ground.specs.Frame.{groundUnder}
 use Rattle.passes.specs.Passes.{stored, demandOf}

@@ -20,8 +20,8 @@ use Rattle.wheel.specs.declared.Directions.{Directions}
 use Rattle.wheel.specs.declared.RayAnswer.{RayAnswer}
 use Rattle.wheel.specs.Parts.{withFriction, frictionIn}
 use Rattle.wheel.specs.Ray.{updateWheelTransform, rayCast, isGrounded}
-use Rattle.wheel.specs.Contact.{directionsOf}
-use Rattle.wheel.specs.Step.{suspendedOf, applySuspension, wheelLimit, frictionOf, applyFriction, updateRotation}
+use Rattle.road.specs.Contact.{directionsOf}
+use Rattle.road.specs.Step.{suspendedOf, applySuspension, wheelLimit, frictionOf, applyFriction, updateRotation}
 use Rattle.table.specs.Layout as at
 use Rattle.table.specs.Bounds.{STORED}
 use Rattle.table.specs.Rows.{wheelAt, putWheel}

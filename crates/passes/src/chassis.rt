@@ -26,7 +26,7 @@ pub fn spring_pass(table: &[f32], n: usize, dt: f32, chassis: Chassis) -> Chassi
     let mut i = 0usize;
     while i < n {
         let w = table::rows::get_wheel(table, i);
-        c = wheel::step::apply_suspension(w.settings.tuning, dt, w, c);
+        c = road::step::apply_suspension(w.settings.tuning, dt, w, c);
         i += 1usize;
     }
     c
@@ -52,7 +52,7 @@ pub fn directions_in(table: &[f32], n: usize) -> [Directions; WHEELS]
     let mut i = 0usize;
     while i < n {
         let w = table::rows::get_wheel(table, i);
-        all[i] = wheel::contact::directions_of(w);
+        all[i] = road::contact::directions_of(w);
         i += 1usize;
     }
     all
@@ -74,7 +74,7 @@ pub fn push_pass(
     while i < n {
         let w = table::rows::get_wheel(table, i);
         let d = directions[i];
-        c = wheel::step::apply_friction(up, d, w, c);
+        c = road::step::apply_friction(up, d, w, c);
         i += 1usize;
     }
     c
@@ -93,7 +93,7 @@ fn is_admitted(tuning: WheelTuning, dt: f32, w: Wheel) -> bool
     }
     real::is_within(
         table::bounds::STORED,
-        wheel::step::wheel_limit(tuning, dt, w),
+        road::step::wheel_limit(tuning, dt, w),
     )
 }
 

@@ -11,7 +11,7 @@ ghost use lib.Ieee.{binary32};
 ghost use Rattle.table.specs.Layout as at;
 ghost use Rattle.table.specs.Rows.{wheelAt, putWheel};
 ghost use Rattle.wheel.specs.Ray.{answerAt, namedOf, rayCast};
-ghost use Rattle.wheel.specs.Step.{suspendedOf, updateRotation};
+ghost use Rattle.road.specs.Step.{suspendedOf, updateRotation};
 ghost use Rattle.ground.specs.Frame.{frame, Grounds, Listed};
 ghost use Rattle.passes.specs.Passes.{stored, changed, transformAt, transforms, casts, suspensions, directionsAt, demandOf, demands, spins};
 
@@ -68,7 +68,7 @@ fn suspend_wheel(table: &mut [f32], i: usize, invmass: f32, contact: bool)
     table::rows::put_force(
         table,
         i,
-        wheel::step::wheel_force(w.settings.tuning, invmass, contact, w),
+        road::step::wheel_force(w.settings.tuning, invmass, contact, w),
     );
 }
 
@@ -102,7 +102,7 @@ fn demand_wheel(
     let w = table::rows::get_wheel(&table[..], i);
     let contact = wheel::ray::is_grounded(answer);
     let ground = ground::ground_under(bodies, dynamic, answer);
-    let friction = wheel::step::friction_of(
+    let friction = road::step::friction_of(
         w.settings.tuning,
         dt,
         chassis,
@@ -144,7 +144,7 @@ fn spin_wheel(table: &mut [f32], i: usize, dt: f32, contact: bool, chassis: Body
     ensures { λ _. ⌜ now (table .exit) ≡ putWheel (now (table .entry)) i (updateRotation binary32 dt contact chassis (wheelAt (now (table .entry)) i)) ⌝ }
 {
     let w = table::rows::get_wheel(&table[..], i);
-    let r = wheel::step::update_rotation(dt, contact, chassis, w);
+    let r = road::step::update_rotation(dt, contact, chassis, w);
     let m = r.motion;
     table::rows::put_rotation(table, i, m.rotation, m.spin);
 }

@@ -1,4 +1,2 @@
 pub mod Parts
 pub mod Ray
-pub mod Contact
-pub mod Step

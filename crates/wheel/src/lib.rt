@@ -6,8 +6,6 @@ use vector::Rotation;
 use vector::Vector;
 
 pub mod ray; // rules 1 and 3 to 5: where the wheel is, and what its ray met
-pub mod contact; // rule 7: the tyre on the ground under it, over bodies
-pub mod step; // rules 6 to 10 for one wheel of a drive
 
 // What was handed in when the wheel was added, in the order of docs/STREAM.md.
 pub struct Settings {

@@ -4,7 +4,7 @@ use Prim.Native.Nat.{_-_}
 use native.Mathlib.Omega.{arith}
 use lib.Ieee.{binary32}
 use Rattle.lists.proofs.Turns.{Turning, turning-start, turning-again, turning-done}
-use Rattle.wheel.specs.Contact.{directionsOf}
+use Rattle.road.specs.Contact.{directionsOf}
 use Rattle.passes.specs.Passes.{given, eachGives, directionsIn}
 use Rattle.passes.proofs.chassis.directions_in.Statement.{statement}
 use Rattle.passes.proofs.chassis.directions_in.Tie as tie
