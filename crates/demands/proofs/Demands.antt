@@ -1,4 +1,4 @@
--- The three demands, as theorems over the definitions of the six calls: setUp, addWheel, setControls, readWheel (crate vehicle), aimOf and driveOf (crate drive). The demand's own words stand above each.
+-- The three demands, as theorems over the definitions of the six calls: setUp, addWheel, setControls, aimOf, driveOf and readWheel, each in the crate of its call. The demand's own words stand above each.
 -- That a function is its definition, and that it ends for all numbers and every lent table, is each function's contract, proved in its own crate: none has a `requires`. Assumes nothing.
 use Prim.Native.Nat.{ℕ, _≤_, _<_}
 use mathlib.Core.Bool.{true, false}

@@ -57,7 +57,7 @@ frictionOf f tuning dt chassis contact ground grounded d w =
     cond contact (withSkid f (rollingDemand f dt chassis ground grounded (d .forward) w) (sideDemand f tuning chassis ground (d .axis) w) (wheelLimit f tuning dt w)) airborne
 
 -- Demand 3's last sentence: the two impulses and the skid of one wheel in a drive, from the kept chassis, the chassis after the springs, the time step, its ground,
--- the number of grounded wheels, its own hit and its own stored row.
+-- the number of grounded wheels, its own hit, its own stored row and the tuning that counts.
 unfoldable pub impulsesOf : Format → WheelTuning → Body → Body → Float → Ground → ℕ → RayAnswer → Wheel → Friction
 impulsesOf f tuning kept sprung dt ground grounded answer w =
     let hung = suspendedOf f tuning (kept .invmass) (isGrounded answer) (rayCast f tuning kept answer w) in
