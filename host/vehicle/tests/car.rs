@@ -1,4 +1,4 @@
-//! The small car of crates/car through the typed calls: two frames worked out by hand, and the moments at which nothing can be read.
+//! The small car of host/c/hand_worked.c through the typed calls: two frames worked out by hand, and the moments at which nothing can be read.
 
 use vehicle_controller::{
     Axis, Chassis, Controls, GroundBody, Inertia, RayAnswer, Refusal, Vector, Vehicle, Velocity,

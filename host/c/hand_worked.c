@@ -1,0 +1,290 @@
+/* A small car through set-up, aim, drive and read, and each refusal that a call can give: 1, 3, 4, 5, 6, 2, 10, 7 and 8.
+ *
+ * It prints lines: a name, the number that the call answered, and each result as eight hex digits. host/run holds them to hand_worked.lines.
+ * Those are worked out by hand from document 01, for which the car's numbers are chosen, and never taken from what a program prints. */
+#include <math.h>
+#include <stdio.h>
+#include <string.h>
+
+#include "vehicle.h"
+
+enum { WHEELS = 4, TOO_MANY_BODIES = VEHICLE_MOST_BODIES + 1 };
+
+/* Where numbers stand in the settings, the chassis and the results, in the order of vehicle.h. */
+enum { CONNECTION = 0, DIRECTION = CONNECTION + 3, AXLE = DIRECTION + 3, REST = AXLE + 3, RADIUS = REST + 1, STIFFNESS, COMPRESSION, DAMPING, TRAVEL, SIDEWAYS, SLIP, MOST };
+enum { ROTATION = 3, CENTRE = ROTATION + 4, LINVEL = CENTRE + 3, ANGVEL = LINVEL + 3, INVMASS = ANGVEL + 3, EFFECTIVE = INVMASS + 1 };
+enum { SPEED_AND_FIRST_SIGHT = 1 + 3 + 3, VELOCITIES = 3 + 3, WAKE = VELOCITIES };
+
+/* Where the first wheel's row begins in the table: after the kept chassis. The order in a row is the library's own: no host
+ * needs it, and here any number of the row will do. */
+enum { FIRST_ROW = VEHICLE_CHASSIS_LEN };
+
+/* The greatest magnitude that a call takes: 2^20. */
+static const float greatest = 1048576;
+
+/* A wheel that hangs down. With a force of 16 over a step of 0.5, the grip limit is 8 times the slip. */
+static const float hanging[VEHICLE_SETTINGS_LEN] = {0, 0, 0, 0, -1, 0, 0, 0, 1, 1, 1, 8, 2, 2, 0.5f, 1, 1, 1024};
+
+/* Mass 4 and no inverse inertia, so that impulses only push. */
+static const float standing[VEHICLE_CHASSIS_LEN] = {0, 0, 0, 0, 0, 0, 1, 0, 0, 0, 0, 0, 0, 0, 0, 0, 0.25f, 0.25f, 0.25f, 0.25f, 0, 0, 0, 0, 0, 0};
+
+struct car {
+    float table[VEHICLE_TABLE_LEN];
+    uint32_t whole[VEHICLE_WHOLE_LEN];
+};
+
+/* ---- What is printed. ---- */
+
+static void show(const char *name, uint32_t number)
+{
+    printf("%s %lu", name, (unsigned long)number);
+}
+
+static void line(const char *name, uint32_t number)
+{
+    show(name, number);
+    putchar('\n');
+}
+
+/* The pattern of x: one for every NaN, and one for both zeros. */
+static uint32_t bits(float x)
+{
+    uint32_t pattern;
+    float shown = x + 0.0f;
+    if (x != x)
+        return 0x7fc00000;
+    memcpy(&pattern, &shown, sizeof pattern);
+    return pattern;
+}
+
+static void numbers(const float *of, int count)
+{
+    int i;
+    for (i = 0; i < count; i++)
+        printf(" %08lx", (unsigned long)bits(of[i]));
+}
+
+/* ---- The calls on a car. ---- */
+
+static uint32_t set_up(struct car *car, uint32_t up)
+{
+    return vehicle_set_up(car->table, VEHICLE_TABLE_LEN, car->whole, VEHICLE_WHOLE_LEN, up, 0);
+}
+
+static uint32_t add_wheel(struct car *car, const float settings[VEHICLE_SETTINGS_LEN])
+{
+    return vehicle_add_wheel(car->table, VEHICLE_TABLE_LEN, car->whole, VEHICLE_WHOLE_LEN, settings, VEHICLE_SETTINGS_LEN);
+}
+
+/* Steers straight on. */
+static uint32_t set_controls(struct car *car, uint32_t wheel, float engine, float brake)
+{
+    float controls[VEHICLE_CONTROLS_LEN] = {0, 0, 0, 0, 0, 1};
+    controls[0] = engine;
+    controls[1] = brake;
+    return vehicle_set_controls(car->table, VEHICLE_TABLE_LEN, car->whole, VEHICLE_WHOLE_LEN, wheel, controls, VEHICLE_CONTROLS_LEN);
+}
+
+static uint32_t aim(struct car *car, const float chassis[VEHICLE_CHASSIS_LEN], float sights[VEHICLE_AIM_LEN])
+{
+    return vehicle_aim(car->table, VEHICLE_TABLE_LEN, car->whole, VEHICLE_WHOLE_LEN, chassis, VEHICLE_CHASSIS_LEN, sights, VEHICLE_AIM_LEN);
+}
+
+/* A velocity without a part upward. */
+static uint32_t aim_at(struct car *car, float x, float z, float sights[VEHICLE_AIM_LEN])
+{
+    float chassis[VEHICLE_CHASSIS_LEN];
+    memcpy(chassis, standing, sizeof chassis);
+    chassis[LINVEL] = x;
+    chassis[LINVEL + 2] = z;
+    return aim(car, chassis, sights);
+}
+
+/* Each answer is of one kind; a hit is flat ground at three quarters of the ray, and names no body. */
+static uint32_t drive(struct car *car, uint32_t kind, size_t answers, size_t bodies, float driven[VEHICLE_DRIVE_LEN])
+{
+    static const float body[TOO_MANY_BODIES * VEHICLE_BODY_LEN] = {0};
+    static const uint32_t dynamic[TOO_MANY_BODIES] = {0};
+    static const uint32_t named[VEHICLE_MOST_WHEELS] = {0};
+    uint32_t kinds[VEHICLE_MOST_WHEELS];
+    float rays[VEHICLE_MOST_WHEELS * VEHICLE_RAY_LEN] = {0};
+    int i;
+    for (i = 0; i < VEHICLE_MOST_WHEELS; i++) {
+        kinds[i] = kind;
+        rays[i * VEHICLE_RAY_LEN] = 0.75f; /* time */
+        rays[i * VEHICLE_RAY_LEN + 2] = 1; /* normal */
+    }
+    return vehicle_drive(car->table, VEHICLE_TABLE_LEN, car->whole, VEHICLE_WHOLE_LEN, 0.5f, body, bodies * VEHICLE_BODY_LEN, dynamic, bodies, kinds, answers, named, answers, rays, answers * VEHICLE_RAY_LEN, driven, VEHICLE_DRIVE_LEN);
+}
+
+static uint32_t read_wheel(const struct car *car, uint32_t wheel, float tyre[VEHICLE_READ_LEN])
+{
+    return vehicle_read_wheel(car->table, VEHICLE_TABLE_LEN, car->whole, VEHICLE_WHOLE_LEN, wheel, tyre, VEHICLE_READ_LEN);
+}
+
+/* ---- The car. ---- */
+
+static void add(struct car *car, float x, float z, float slip)
+{
+    float settings[VEHICLE_SETTINGS_LEN];
+    memcpy(settings, hanging, sizeof settings);
+    settings[CONNECTION] = x;
+    settings[CONNECTION + 2] = z;
+    settings[SLIP] = slip;
+    line("add", add_wheel(car, settings));
+}
+
+static void add_four(struct car *car)
+{
+    add(car, 1, 1, 0.3125f);
+    add(car, 1, -1, 0.3125f);
+    add(car, -1, 1, 0.3125f);
+    add(car, -1, -1, 8);
+}
+
+static void control_two(struct car *car)
+{
+    line("controls", set_controls(car, 0, 12, 0));
+    line("controls", set_controls(car, 1, 0, 6));
+}
+
+/* An aim with this velocity, of which the first sight is shown, and a drive with what the rays met. */
+static void frame(struct car *car, float x, float z, uint32_t kind)
+{
+    float sights[VEHICLE_AIM_LEN] = {0}, driven[VEHICLE_DRIVE_LEN] = {0};
+    show("aim", aim_at(car, x, z, sights));
+    numbers(sights, SPEED_AND_FIRST_SIGHT);
+    putchar('\n');
+    show("drive", drive(car, kind, WHEELS, 0, driven));
+    numbers(driven, VELOCITIES);
+    puts(driven[WAKE] == 1 ? " wake" : "");
+}
+
+static void show_wheel(const struct car *car, uint32_t wheel)
+{
+    float tyre[VEHICLE_READ_LEN] = {0};
+    show("read", read_wheel(car, wheel, tyre));
+    numbers(tyre, VEHICLE_READ_LEN);
+    putchar('\n');
+}
+
+/* The first frame: two wheels that slide, one with its engine and one on its brake, one that slides sideways, and one that grips.
+ * The second is a jump: no ray meets anything. The centre has the length of the drive before, and the wheel spins on. */
+static void two_frames(struct car *car)
+{
+    uint32_t wheel;
+    frame(car, 12, 5, VEHICLE_HIT);
+    for (wheel = 0; wheel < WHEELS; wheel++)
+        show_wheel(car, wheel);
+    frame(car, -12, 5, VEHICLE_NOTHING);
+    show_wheel(car, 0);
+}
+
+/* ---- Each refusal number, met by a call. ---- */
+
+/* Refusal 1, of the driven car's table. */
+static void refused_set_up(struct car *car)
+{
+    line("axis 3", set_up(car, 3));
+    line("table too short", vehicle_set_up(car->table + 1, VEHICLE_TABLE_LEN - 1, car->whole, VEHICLE_WHOLE_LEN, 1, 0));
+}
+
+/* Refusals 4 and 10. */
+static void refused_controls(struct car *car)
+{
+    line("controls of wheel 4", set_controls(car, 4, 0, 0));
+    line("brake -1", set_controls(car, 0, 0, -1));
+}
+
+/* Refusal 5 of a drive, 2 of a number handed in, and 5 of a read once an aim was accepted. */
+static void refused_moments(struct car *car)
+{
+    float sights[VEHICLE_AIM_LEN], driven[VEHICLE_DRIVE_LEN], tyre[VEHICLE_READ_LEN];
+    line("drive not aimed", drive(car, VEHICLE_HIT, WHEELS, 0, driven));
+    line("aim with a NaN", aim_at(car, NAN, 0, sights));
+    line("aim", aim_at(car, 0, 0, sights));
+    line("read not driven", read_wheel(car, 0, tyre));
+}
+
+/* Refusal 6: three answers for four wheels, and 65 bodies. */
+static void refused_lists(struct car *car)
+{
+    float driven[VEHICLE_DRIVE_LEN];
+    line("three answers", drive(car, VEHICLE_HIT, WHEELS - 1, 0, driven));
+    line("65 bodies", drive(car, VEHICLE_HIT, WHEELS, TOO_MANY_BODIES, driven));
+}
+
+/* Refusal 2, of a stored number: the table is not ours any more. */
+static void refused_stored(struct car *car)
+{
+    car->table[FIRST_ROW] = 2199023255552.0f; /* 2^41 */
+    line("stored above 2^40", set_controls(car, 0, 0, 0));
+}
+
+static uint32_t add_with_radius(struct car *car, float radius)
+{
+    float settings[VEHICLE_SETTINGS_LEN];
+    memcpy(settings, hanging, sizeof settings);
+    settings[RADIUS] = radius;
+    return add_wheel(car, settings);
+}
+
+/* Refusal 3, which comes before 10. */
+static void refused_wheels(void)
+{
+    struct car car = {{0}, {0}};
+    int i;
+    set_up(&car, 1);
+    line("radius 0", add_with_radius(&car, 0));
+    for (i = 0; i < VEHICLE_MOST_WHEELS; i++)
+        add_with_radius(&car, 1);
+    line("wheel 17", add_with_radius(&car, 1));
+    line("wheel 17 with radius 0", add_with_radius(&car, 0));
+}
+
+/* One wheel at full side speed on a chassis of inverse mass 2^-20, with a side stiffness and an effective inverse mass. */
+static uint32_t step_of(float sideways, float effective)
+{
+    struct car car = {{0}, {0}};
+    float settings[VEHICLE_SETTINGS_LEN], chassis[VEHICLE_CHASSIS_LEN], sights[VEHICLE_AIM_LEN], driven[VEHICLE_DRIVE_LEN];
+    int i;
+    memcpy(settings, hanging, sizeof settings);
+    settings[STIFFNESS] = greatest;
+    settings[COMPRESSION] = 0;
+    settings[DAMPING] = 0;
+    settings[SIDEWAYS] = sideways;
+    settings[MOST] = greatest;
+    memcpy(chassis, standing, sizeof chassis);
+    chassis[LINVEL + 2] = greatest;
+    chassis[INVMASS] = 1 / greatest;
+    for (i = 0; i < 3; i++)
+        chassis[EFFECTIVE + i] = effective;
+    set_up(&car, 1);
+    add_wheel(&car, settings);
+    aim(&car, chassis, sights);
+    return drive(&car, VEHICLE_HIT, 1, 0, driven);
+}
+
+/* Refusals 7 and 8. */
+static void refused_steps(void)
+{
+    line("demand above 2^40", step_of(greatest, 1));
+    line("velocity above 2^40", step_of(1, greatest));
+}
+
+int main(void)
+{
+    struct car car = {{0}, {0}};
+    line("set up", set_up(&car, 1));
+    add_four(&car);
+    control_two(&car);
+    two_frames(&car);
+    refused_set_up(&car);
+    refused_controls(&car);
+    refused_moments(&car);
+    refused_lists(&car);
+    refused_stored(&car);
+    refused_wheels();
+    refused_steps();
+    return 0;
+}
