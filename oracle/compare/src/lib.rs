@@ -3,8 +3,12 @@
 
 mod difference;
 mod runner;
+mod streams;
 mod tally;
+mod workers;
 
 pub use difference::{first_difference, Difference};
 pub use runner::Runner;
+pub use streams::{Name, Streams, CUT};
 pub use tally::Tally;
+pub use workers::{all_of, guarded};

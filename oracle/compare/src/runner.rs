@@ -37,8 +37,8 @@ impl Runner {
         let status = child.wait().map_err(|error| error.to_string())?;
         let output = output?;
         match status.code() {
-            Some(_) => Ok(output),
-            None => Err(format!("the program was ended by a signal: {status}")),
+            Some(0) => Ok(output),
+            _ => Err(format!("the program ended with {status}")),
         }
     }
 }

@@ -3,7 +3,6 @@
 use std::collections::BTreeMap;
 use std::fmt;
 
-use scenarios::Kind;
 use vehicle::program::Line;
 use vehicle::table::{ACCEPTED, MALFORMED};
 
@@ -26,8 +25,8 @@ pub struct Tally {
 }
 
 impl Tally {
-    pub fn add(&mut self, kind: Kind, lines: &[Line]) {
-        *self.scenarios.entry(kind.name()).or_default() += 1;
+    pub fn add(&mut self, group: &'static str, lines: &[Line]) {
+        *self.scenarios.entry(group).or_default() += 1;
         for line in lines {
             *self.codes.entry((line.code, line.answer)).or_default() += 1;
             self.add_wheels(line);
@@ -64,6 +63,11 @@ impl Tally {
 
     pub fn scenarios(&self) -> u64 {
         self.scenarios.values().sum()
+    }
+
+    /// How many scenarios of this group were compared.
+    pub fn of(&self, group: &str) -> u64 {
+        self.scenarios.get(group).copied().unwrap_or(0)
     }
 
     fn count(&self, matches: impl Fn(u32, u32) -> bool) -> u64 {
