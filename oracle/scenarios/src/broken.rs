@@ -6,13 +6,19 @@ use vehicle::stream::{bytes_of, groups, Code, Token};
 
 use crate::parts::{near_upright, Size};
 use crate::random::Random;
-use crate::script::Script;
+use crate::script::{stream_of, Script};
+
+/// So many seeds break the same short stream, so that they cut it at every place in turn.
+const RUN: u64 = 8192;
+
+/// The stream that the first run of seeds breaks.
+pub fn unbroken() -> Vec<u8> {
+    stream_of(&base_of(0))
+}
 
 pub fn scenario(random: &mut Random, seed: u64) -> Vec<u8> {
-    // The same short stream for a run of seeds, so that they cut it at every place in turn.
-    let mut of_run = Random::new(99, seed / 8192);
-    let codes = base(&mut of_run);
-    let turn = (seed % 8192) as usize;
+    let codes = base_of(seed / RUN);
+    let turn = (seed % RUN) as usize;
     let tokens: Vec<Token> = codes.iter().flat_map(Code::tokens).collect();
     let bytes = bytes_of(&tokens);
     match turn % 8 {
@@ -24,6 +30,10 @@ pub fn scenario(random: &mut Random, seed: u64) -> Vec<u8> {
         6 => code_in_place(random, &codes),
         _ => with_bytes_after_the_end(random, bytes),
     }
+}
+
+fn base_of(run: u64) -> Vec<Code> {
+    base(&mut Random::new(99, run))
 }
 
 /// Two wheels, an aim, a drive with two bodies and two kinds of answers, reads.
@@ -139,4 +149,20 @@ fn drive_of(random: &mut Random, bodies: usize, answers: usize) -> Vec<Token> {
 fn with_bytes_after_the_end(random: &mut Random, mut bytes: Vec<u8>) -> Vec<u8> {
     bytes.extend((0..1 + random.below(20)).map(|_| random.bits() as u8));
     bytes
+}
+
+#[cfg(test)]
+mod tests {
+    use super::*;
+    use vehicle::program;
+
+    /// Every code stands in it, and every call is accepted: a cut may fall in each of them.
+    #[test]
+    fn the_unbroken_stream_has_every_code() {
+        let lines = program::run(&unbroken());
+        assert!(lines.iter().all(|line| line.answer == 0));
+        for code in 0..=5 {
+            assert!(lines.iter().any(|line| line.code == code), "code {code}");
+        }
+    }
 }

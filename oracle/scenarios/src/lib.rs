@@ -18,6 +18,7 @@ mod wild;
 
 use random::Random;
 
+pub use broken::unbroken;
 pub use example::{drives, example};
 pub use rubbish::{rubbish, Rubbish};
 
