@@ -71,7 +71,7 @@ fn scenarios_are_determined_by_kind_and_seed() {
     }
 }
 
-/// Tables of rubbish get every answer but 3 and 9, and refusals leave them alone.
+/// Tables of rubbish get every answer of a call, and refusals leave them alone: 9 is the stream's.
 #[test]
 fn tables_of_rubbish() {
     let mut seen = [0; 11];
@@ -88,12 +88,13 @@ fn tables_of_rubbish() {
                     table.numbers.iter().map(|number| number.to_bits()).collect()
                 };
                 assert_eq!(bits(&table), bits(&before));
-                assert_eq!((table.count, table.mark), (before.count, before.mark));
+                let whole = |table: &Table| [table.count, table.mark, table.up, table.forward];
+                assert_eq!(whole(&table), whole(&before));
             }
         }
     }
-    for answer in [0, 1, 2, 4, 5, 7, 8, 10] {
-        assert!(seen[answer] > 0, "answer {answer} not seen: {seen:?}");
+    for answer in 0..seen.len() {
+        assert_eq!(seen[answer] > 0, answer != 9, "answer {answer}: {seen:?}");
     }
     assert!(drives > 100, "{drives} accepted drives");
 }
