@@ -1,6 +1,7 @@
 //! `oracle`: reads a scenario on standard input and prints its lines.
 //!
 //! `oracle --state` takes a table's contents before the codes and shows the table at the end.
+//! `oracle --each` takes scenarios one after another, as crate `replay` does.
 //! `oracle --batch` takes many scenarios, each after its length (four bytes, lowest first), and
 //! answers each with the length of its text and its text.
 #![forbid(unsafe_code)]
@@ -16,9 +17,10 @@ fn main() -> ExitCode {
     let done = match arguments[..] {
         [] => whole(|stream| program::text(&program::run(stream))),
         ["--state"] => whole(program::run_on_state),
+        ["--each"] => whole(program::run_each),
         ["--batch"] => batch(),
         _ => {
-            eprintln!("usage: oracle [--state | --batch] < stream");
+            eprintln!("usage: oracle [--state | --each | --batch] < stream");
             return ExitCode::from(2);
         }
     };

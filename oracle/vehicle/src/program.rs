@@ -87,18 +87,24 @@ fn words(floats: &[f32]) -> Vec<u32> {
 
 /// Runs a stream of codes on a table, to code 0 or the first malformed place.
 pub fn run_on(table: &mut Table, reader: &mut Reader) -> Vec<Line> {
+    run_to_end(table, reader).0
+}
+
+/// The same, and the stream from the code on that ended it.
+fn run_to_end<'a>(table: &mut Table, reader: &mut Reader<'a>) -> (Vec<Line>, &'a [u8]) {
     let mut lines = Vec::new();
     loop {
+        let from = reader.left();
         match reader.code() {
             Ok(code) => {
                 lines.push(call(table, &code));
                 if code == Code::End {
-                    return lines;
+                    return (lines, from);
                 }
             }
             Err(Malformed { code }) => {
                 lines.push(Line::plain(code, MALFORMED));
-                return lines;
+                return (lines, from);
             }
         }
     }
@@ -107,6 +113,19 @@ pub fn run_on(table: &mut Table, reader: &mut Reader) -> Vec<Line> {
 /// Runs a scenario on a table that is set up with axes 1 and 0.
 pub fn run(stream: &[u8]) -> Vec<Line> {
     run_on(&mut Table::new(), &mut Reader::new(stream))
+}
+
+/// Runs scenarios that stand one after another, as crate `replay` does: each but the first begins
+/// one byte behind the start of the code that ended the one before. Code 0 is one byte.
+pub fn run_each(stream: &[u8]) -> String {
+    let mut printed = String::new();
+    let mut left = stream;
+    while !left.is_empty() {
+        let (lines, from) = run_to_end(&mut Table::new(), &mut Reader::new(left));
+        printed += &text(&lines);
+        left = from.get(1..).unwrap_or_default();
+    }
+    printed
 }
 
 /// The title and the lines, each ended by a line feed.

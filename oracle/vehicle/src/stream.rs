@@ -40,6 +40,11 @@ impl<'a> Reader<'a> {
         Reader { left: bytes }
     }
 
+    /// What has not been read yet.
+    pub fn left(&self) -> &'a [u8] {
+        self.left
+    }
+
     /// The next code, whole.
     pub fn code(&mut self) -> Result<Code, Malformed> {
         let code = self.number().map_err(|Broken| Malformed { code: 0 })?;

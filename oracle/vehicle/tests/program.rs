@@ -2,7 +2,7 @@
 
 mod bench;
 
-use vehicle::program::{run, run_on_state, text};
+use vehicle::program::{run, run_each, run_on_state, text};
 use vehicle::stream::{bytes_of, groups, table_tokens, Code, Reader};
 use vehicle::table::Table;
 
@@ -26,6 +26,17 @@ fn ends_before_code_0() {
 #[test]
 fn bytes_after_code_0_are_not_read() {
     assert_eq!(printed(&[0x00, 0xFF, 0xFF]), "vehicle 1\n0 0\n");
+}
+
+/// Behind code 0, behind an unknown code, behind the first byte of a read that is malformed.
+#[test]
+fn scenarios_one_after_another() {
+    assert_eq!(run_each(&[]), "");
+    let stream = [0x05, 0x00, 0x00, 0x06, 0x05, 0x80, 0x00];
+    let scenarios = ["5 4\n0 0", "6 9", "5 9", "0 9", "0 0"];
+    let expected: String = scenarios.iter().map(|lines| format!("vehicle 1\n{lines}\n")).collect();
+    assert_eq!(run_each(&stream), expected);
+    assert_eq!(run_each(&[0x05, 0x00]), "vehicle 1\n5 4\n0 9\n");
 }
 
 #[test]
