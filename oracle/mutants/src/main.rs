@@ -64,6 +64,9 @@ fn try_all(wanted: &Wanted) -> Result<bool, String> {
     if let Some(only) = &wanted.only {
         slips.retain(|slip| slip.name == *only);
     }
+    if slips.is_empty() {
+        return Err("there is no such slip".to_string());
+    }
     let expected = Expected::of(&wanted.runner, wanted.seeds)?;
     println!("the program agrees with the oracle on {} scenarios", expected.scenarios());
     let next = AtomicUsize::new(0);
