@@ -33,11 +33,26 @@ pub fn write_text(out: &[u8; TEXT_BYTES], at: usize) -> bool
     write_first(out, at)
 }
 
-// Reads what comes next, and answers how many bytes: none at the end of the input, or where it cannot be read.
+// Whether a read that answered so was interrupted by a signal before it had any byte.
+fn is_interrupted(got: isize) -> bool {
+    if got < 0 {
+        os::errno() == libc::EINTR
+    } else {
+        false
+    }
+}
+
+// Reads what comes next, and answers how many bytes: none at the end of the input, or where it cannot be read. An interrupted read is no end: it is made
+// again, and since a proved loop has to end, the tries are counted down from a number that no run uses up.
 fn read_some(free: &mut [u8]) -> usize
     ensures { λ r. ⌜ r ≤ length (now (free .entry)) ⌝ }
 {
-    let got = libc::read(STDIN_FILENO, free);
+    let mut got = libc::read(STDIN_FILENO, free);
+    let mut tries = u64::MAX;
+    while tries > 0 && is_interrupted(got) {
+        tries -= 1u64;
+        got = libc::read(STDIN_FILENO, free);
+    }
     io::count(got, free)
 }
 
