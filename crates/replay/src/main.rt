@@ -6,7 +6,7 @@ use table::layout::WHOLE;
 ghost use Prim.Native.Nat.{_≤_};
 ghost use Rattle.session.specs.Layout as layout;
 
-// The bytes of the code 0 that ends a scenario.
+// The bytes of a code 0.
 const END_BYTES: usize = 1;
 
 // Plays the scenario at the start of the window, with so many bytes there, and answers how many are left.
@@ -21,7 +21,8 @@ fn play(window: &mut [u8; WINDOW_BYTES], filled: usize, out: &mut [u8; TEXT_BYTE
     console::serve(window, filled, &mut table, &mut whole, out)
 }
 
-// Moves what stands behind the code 0 of a scenario to the window's start, reads on if that is nothing, and answers how many bytes are there.
+// Moves what stands one byte behind the start of the code that ended a scenario to the window's start, reads on if that is nothing, and answers how many
+// bytes are there. That is behind a code 0; in a malformed code, the rest of it.
 fn next(window: &mut [u8; WINDOW_BYTES], left: usize) -> usize
     requires { ⌜ left ≤ layout.WINDOW-BYTES ⌝ }
     ensures { λ r. ⌜ r ≤ layout.WINDOW-BYTES ⌝ }

@@ -26,6 +26,8 @@ fn main() -> ExitCode {
         eprintln!("usage: compare-host [--seeds N] [--from S]");
         return ExitCode::from(2);
     };
+    let kinds: Vec<&str> = runs_of(from).iter().map(|(name, ..)| *name).collect();
+    println!("seeds {from} to {} of each kind: {}", from + seeds - 1, kinds.join(", "));
     let mut tally = Tally::default();
     for seed in from..from + seeds {
         for (name, start, codes) in runs_of(seed) {
@@ -37,6 +39,11 @@ fn main() -> ExitCode {
         }
     }
     print!("{tally}");
+    let wanted = seeds * kinds.len() as u64;
+    if tally.runs != wanted {
+        println!("{wanted} runs asked for, {} compared", tally.runs);
+        return ExitCode::FAILURE;
+    }
     println!("compared {} runs of {} calls, 0 differences", tally.runs, tally.calls());
     ExitCode::SUCCESS
 }
@@ -52,7 +59,7 @@ fn arguments() -> Option<(u64, u64)> {
             _ => return None,
         }
     }
-    Some((seeds, from))
+    Some((seeds, from)).filter(|(seeds, _)| *seeds > 0)
 }
 
 /// The runs of a seed: one of each kind from set-up, and one on a table of rubbish.
