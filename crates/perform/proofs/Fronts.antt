@@ -9,7 +9,7 @@ use lib.Ieee.{Float, Format}
 use Rattle.lists.specs.Part.{paste}
 use Rattle.lists.proofs.Turns.{length-listed}
 use Rattle.table.specs.Layout.{BODY}
-use Rattle.scenario.specs.Frame.{bodyNumberFrom, bodiesFrom, flagFrom, flagsFrom}
+use Rattle.frame_words.specs.Frame.{bodyNumberFrom, bodiesFrom, flagFrom, flagsFrom}
 
 front-of-paste : {A : Type 0} (t r : List A) (k : ℕ) → length r ≡ k → take k (paste t 0 r) ≡ r
 unfolding paste

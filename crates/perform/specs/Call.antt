@@ -21,7 +21,7 @@ use Rattle.grammar.specs.declared.Asked.{Asked}
 use Rattle.grammar.specs.Layout as code
 use Rattle.grammar.specs.Grammar.{asked}
 use Rattle.scenario.specs.Decode.{numberFrom, settingsFrom, wheelFrom, controlsFrom, chassisFrom}
-use Rattle.scenario.specs.Frame.{stepFrom, bodyCountFrom, bodiesFrom, flagsFrom, answerCountFrom, answersStart, answersFrom}
+use Rattle.frame_words.specs.Frame.{stepFrom, bodyCountFrom, bodiesFrom, flagsFrom, answerCountFrom, answersStart, answersFrom}
 use Rattle.perform.specs.declared.Answer.{Answer}
 use Rattle.replies.specs.Replies.{aimResults, driveResults, readResults}
 

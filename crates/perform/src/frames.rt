@@ -2,7 +2,6 @@
 use super::Answer;
 use drive::Driven;
 use scenario::decode;
-use scenario::frame;
 use table::layout;
 use table::layout::COUNT;
 ghost use mathlib.Core.Path.{_≡_};
@@ -14,7 +13,7 @@ ghost use Rattle.drive.specs.Drive.{driveOf};
 ghost use Rattle.grammar.specs.Layout as code;
 ghost use Rattle.lines.specs.Layout as line;
 ghost use Rattle.scenario.specs.Format.{format};
-ghost use Rattle.scenario.specs.Frame.{stepFrom};
+ghost use Rattle.frame_words.specs.Frame.{stepFrom};
 ghost use Rattle.perform.specs.Call.{frameFrom, answersOf, aimCall, driveCall, Counted, Performs};
 
 // The numbers of as many bodies as a drive may have.
@@ -47,10 +46,10 @@ fn drive_on(
     requires { ⌜ (length (now words) ≡ code.CODE-WORDS) × Counted (now words) ⌝ }
     ensures { λ r. ⌜ after r (now (table .exit)) (now (whole .exit)) ≡ driveOf format (now (table .entry)) (now (whole .entry)) (frame (stepFrom format (now (words .entry))) (now (bodies .entry)) (now (flags .entry)) (frameFrom format (now (words .entry)) .answer)) (answersOf (now (words .entry))) ⌝ }
 {
-    let dt = frame::step_from(words);
-    let nb = frame::body_count_from(words) as usize;
-    let na = frame::answer_count_from(words, nb) as usize;
-    let answers = frame::decode_answers(words, frame::answers_start(nb), na);
+    let dt = frame_words::step_from(words);
+    let nb = frame_words::body_count_from(words) as usize;
+    let na = frame_words::answer_count_from(words, nb) as usize;
+    let answers = frame_words::decode_answers(words, frame_words::answers_start(nb), na);
     drive::advance::drive(table, whole, dt, bodies, flags, answers, na)
 }
 
@@ -59,11 +58,11 @@ fn drive_frame(words: &[u32], table: &mut [f32], whole: &mut [u32]) -> Driven
     requires { ⌜ (length (now words) ≡ code.CODE-WORDS) × Counted (now words) ⌝ }
     ensures { λ r. ⌜ after r (now (table .exit)) (now (whole .exit)) ≡ driveOf format (now (table .entry)) (now (whole .entry)) (frameFrom format (now (words .entry))) (answersOf (now (words .entry))) ⌝ }
 {
-    let nb = frame::body_count_from(words) as usize;
+    let nb = frame_words::body_count_from(words) as usize;
     let mut bodies = [0.0; BODY_NUMBERS];
-    frame::decode_bodies(words, nb, &mut bodies);
+    frame_words::decode_bodies(words, nb, &mut bodies);
     let mut flags = [false; layout::BODIES];
-    frame::decode_flags(words, nb, &mut flags);
+    frame_words::decode_flags(words, nb, &mut flags);
     let e = nb * layout::BODY;
     drive_on(words, table, whole, &bodies[..e], &flags[..nb])
 }

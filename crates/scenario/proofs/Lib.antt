@@ -1,5 +1,4 @@
 -- The laws that the functions' proofs cite.
 pub mod Patterns
-pub mod Answers
 pub mod Words
 pub mod Tied

@@ -1,5 +1,4 @@
 pub mod Format
 pub mod Layout
 pub mod Decode
-pub mod Frame
 pub mod Results

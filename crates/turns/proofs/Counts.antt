@@ -24,7 +24,7 @@ use Rattle.stream.specs.Code.{Reading, shown, Reader, readOn, readCode}
 use Rattle.grammar.proofs.Places.{closed-end}
 use Rattle.stream.proofs.Readings.{by-words, short-not-whole, malformed-not-whole}
 use Rattle.scenario.specs.Decode.{numberFrom}
-use Rattle.scenario.specs.Frame.{bodyCountFrom, answerCountFrom}
+use Rattle.frame_words.specs.Frame.{bodyCountFrom, answerCountFrom}
 use Rattle.perform.specs.Call.{answersOf, Counted}
 use Rattle.turns.specs.Car.{padded}
 
