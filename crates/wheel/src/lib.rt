@@ -1,4 +1,5 @@
-// One wheel, on values: document 01's rules for a single wheel. A row of the lent table is read into a `Wheel`, and written from one.
+// One wheel, on values, and its ray: document 01's rules 1 and 3 to 5 for a single wheel; those of a wheel on the ground are in crate `road`. A row of the lent
+// table is read into a `Wheel`, and written from one.
 use body::GroundBody;
 use tyre::Approach;
 use tyre::WheelTuning;
