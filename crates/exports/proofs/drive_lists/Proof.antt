@@ -1,4 +1,4 @@
--- `exports::answers::drive_lists` meets its contract: the drive does, given what the lists hold. Assumes nothing.
+-- `exports::drive_lists` meets its contract: the drive does, given what the lists hold. Assumes nothing.
 use borrow.Author.Needs.{needs}
 use mathlib.Core.Path.{_∙_, ap}
 use lib.ListN.{length}
