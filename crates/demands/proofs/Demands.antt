@@ -1,6 +1,6 @@
 -- The three demands, as theorems over the definitions of the six calls: setUp, addWheel, setControls, aimOf, driveOf and readWheel, each in the crate of its call. The demand's own words stand above each.
 -- That a function is its definition, and that it ends for all numbers and every lent table, is each function's contract, proved in its own crate: none has a `requires`. Assumes nothing.
-use Prim.Native.Nat.{ℕ, _≤_, _<_}
+use Prim.Native.Nat.{ℕ, _<_}
 use mathlib.Core.Bool.{true, false}
 use mathlib.Core.List.{List, _∷_}
 use mathlib.Core.Path.{_≡_, refl, sym, ap, subst, _∙_}
@@ -13,29 +13,34 @@ use Rattle.tyre.specs.declared.Friction.{Friction}
 use Rattle.tyre.specs.Grip.{skidOf, rescaledBy}
 use Rattle.tyre.specs.Demand3.{precision, Grips, WithinBrake, leastLimit}
 use Rattle.tyre.proofs.Demand3.{not-sliding, sliding}
+use Rattle.wheel.specs.Ray.{updateWheelTransform}
 use Rattle.table.specs.Layout as at
+use Rattle.table.specs.Rows.{wheelAt, chassisAt}
 use Rattle.ground.specs.Frame.{Frame}
-use Rattle.refusals.specs.Shape.{countOf, upOf, forwardOf}
+use Rattle.refusals.specs.Shape.{countOf, markOf, upOf, forwardOf}
 use Rattle.refusals.specs.After.{After, after, settled, marked}
-use Rattle.refusals.proofs.Settled.{settled-refused, settled-done, settled-number}
-use Rattle.read_wheel.specs.declared.Reading.{Reading}
+use Rattle.refusals.proofs.Settled.{settled-refused, settled-number}
 use Rattle.set_up.specs.SetUp.{setUp, refuseSetUp}
 use Rattle.add_wheel.specs.Add.{addWheel, refuseAdd}
 use Rattle.set_controls.specs.Controls.{setControls, refuseControls}
 use Rattle.read_wheel.specs.Read.{readWheel, refuseRead, notRead, readingOf}
 use Rattle.read_wheel.proofs.Accepted.{read-says}
-use Rattle.aim.specs.declared.Aimed.{Aimed}
-use Rattle.drive.specs.declared.Driven.{Driven}
 use Rattle.aim.specs.Aim.{aimOf, refuseAim, notAimed, aimedBy, aimedTable}
 use Rattle.passes.specs.Passes.{stored}
 use Rattle.passes.specs.Step.{wholeStep}
 use Rattle.drive.specs.Drive.{driveUnder, driveOf, refuseDrive, notDriven, drivenBy}
-use Rattle.demands.specs.History.{State, Call, SetUp, ReadWheel, answered, accepted, runAll, drivenSince, countAfter, readAfter}
-use Rattle.demands.specs.Same.{Same}
-use Rattle.demands.specs.Impulses.{Step, Accepted, Stepped, Grounded, forwardDemand, sideDemand, gripLimit, forwardImpulse, sideImpulse, brakeOf, slidesAt, poweredAt, Alike}
+use Rattle.demands.specs.History.{State, Call, SetUp, Drive, ReadWheel, answered, accepted, run, runAll, drivenSince, countAfter, readAfter}
+use Rattle.demands.specs.Answers.{isOneOf, answers}
+use Rattle.demands.specs.Held.{Held, handsHeld, HandsHeld}
+use Rattle.demands.specs.Update.{updateOf, updated}
+use Rattle.demands.specs.Impulses.{Step, stepAfter, Accepted, Stepped, Grounded, forwardDemand, sideDemand, gripLimit, forwardImpulse, sideImpulse, skidAt, brakeOf, slidesAt, poweredAt, Alike}
 use Rattle.demands.proofs.Marks.{history-from-set-up}
 use Rattle.demands.proofs.Five.{five-of-not-driven, not-five-of-driven}
-use Rattle.demands.proofs.Numbers.{number-le-ten}
+use Rattle.demands.proofs.Numbers.{number-among}
+use Rattle.demands.proofs.Transforms.{placed-from-set-up}
+use Rattle.demands.proofs.Updates.{driven-is, aimed-is, update-speed, update-driven, update-of-placed}
+use Rattle.demands.proofs.Each.{each-of-held, held-of-each}
+use Rattle.demands.proofs.HeldCalls.{call-held, held-from-set-up}
 use Rattle.demands.proofs.Impulses.{forward-rescaled, side-rescaled, forward-admitted, side-admitted, limit-admitted, within-brake, friction-alike}
 
 -- ---- Demand 1. "A bad call is answered by a number of document 01": the number that a call answers is that of its refusal list, 0 where no test of the list fails.
@@ -92,9 +97,9 @@ module _ (f : Format) (t : List Float) (m : List ℕ) where
   unfolding readWheel
   read-refused i h = refusal-changes-nothing _ notRead _ h
 
--- the numbers are those of document 01's table
-pub answer-in-table : (f : Format) (c : Call) (s : State) → answered f c s .reply ≤ 10
-answer-in-table f c s = number-le-ten f c s
+-- each call's number is one of those that document 01 lets it answer: 9 is never a call's, 3 only an add's, 7 only a drive's
+pub answer-in-list : (f : Format) (c : Call) (s : State) → isOneOf (answered f c s .reply) (answers c) ≡ true
+answer-in-list f c s = number-among f c s
 
 -- ---- "In a table our calls wrote, a wheel not yet driven can't be read: that is refusal 5." A history is a list of calls, with any arguments and whatever each answered, from an accepted set-up of
 -- whatever was lent. A read of a used wheel is then refused with 5 exactly where no accepted drive came, or where an accepted set-up, add or aim came after the last.
@@ -121,44 +126,37 @@ module _ (f : Format) (lent : State) (up forward : ℕ) (l : List Call) (set-up 
       let z : refuseRead (now .table) (now .whole) i ≡ 0 = sym (read-number f (now .table) (now .whole) i) ∙ eqb-true _ 0 h in
       sym (history-from-set-up f lent up forward l set-up .mark) ∙ eq-eqb _ at.DRIVEN (read-says (now .table) (now .whole) i z .driven)
 
--- ---- "Each public function's contract determines the full reply and each lent number afterwards, refusals too; show that two replies it allows are equal" (document 01): a contract
--- is one equation between what a call answers and leaves and its definition, and any two that meet it are the same. Once for every call, and for each.
-pub contract-determines : {R : Type 0} {x : After R} {r r' : R} {t t' : List Float} {m m' : List ℕ} → after r t m ≡ x → after r' t' m' ≡ x → Same r r' t t' m m'
-contract-determines {R} p q =
-    let e = p ∙ sym q in
-    record { reply = ap (λ (y : After R). y .reply) e; table = ap (λ (y : After R). y .table) e; whole = ap (λ (y : After R). y .whole) e }
-
-module _ (f : Format) (t : List Float) (m : List ℕ) {t₁ t₂ : List Float} {m₁ m₂ : List ℕ} where
-  pub set-up-determined : (up forward : ℕ) {r₁ r₂ : ℕ} → after r₁ t₁ m₁ ≡ setUp t m up forward → after r₂ t₂ m₂ ≡ setUp t m up forward → Same r₁ r₂ t₁ t₂ m₁ m₂
-  set-up-determined up forward p q = contract-determines p q
-
-  pub add-determined : (s : Settings) {r₁ r₂ : ℕ} → after r₁ t₁ m₁ ≡ addWheel t m s → after r₂ t₂ m₂ ≡ addWheel t m s → Same r₁ r₂ t₁ t₂ m₁ m₂
-  add-determined s p q = contract-determines p q
-
-  pub controls-determined : (i : ℕ) (c : Controls) {r₁ r₂ : ℕ} → after r₁ t₁ m₁ ≡ setControls f t m i c → after r₂ t₂ m₂ ≡ setControls f t m i c → Same r₁ r₂ t₁ t₂ m₁ m₂
-  controls-determined i c p q = contract-determines p q
-
-  pub aim-determined : (c : Chassis) {r₁ r₂ : Aimed} → after r₁ t₁ m₁ ≡ aimOf f t m c → after r₂ t₂ m₂ ≡ aimOf f t m c → Same r₁ r₂ t₁ t₂ m₁ m₂
-  aim-determined c p q = contract-determines p q
-
-  pub drive-determined : (r : Frame) (n : ℕ) {r₁ r₂ : Driven} → after r₁ t₁ m₁ ≡ driveOf f t m r n → after r₂ t₂ m₂ ≡ driveOf f t m r n → Same r₁ r₂ t₁ t₂ m₁ m₂
-  drive-determined r n p q = contract-determines p q
-
-  pub read-determined : (i : ℕ) {r₁ r₂ : Reading} → after r₁ t₁ m₁ ≡ readWheel t m i → after r₂ t₂ m₂ ≡ readWheel t m i → Same r₁ r₂ t₁ t₂ m₁ m₂
-  read-determined i p q = contract-determines p q
-
 -- ---- Demand 2. "Every accepted step equals the Rust module over document 01's vector arithmetic, bit for bit": from every stored state, the reply of an accepted drive, its table and its whole numbers are
 -- those of document 01's rules 3 to 10, worked out on the kept chassis; those of an accepted aim are rules 1 and 2.
 module _ (f : Format) (t : List Float) (m : List ℕ) where
   pub accepted-drive : (r : Frame) (n : ℕ) → refuseDrive f t m r n ≡ 0
       → driveOf f t m r n ≡ after (drivenBy t n (wholeStep f stored (upOf m) r n t)) (wholeStep f stored (upOf m) r n t .table) (marked m at.DRIVEN)
-  unfolding driveOf driveUnder refuseDrive
-  accepted-drive r n h = sym (settled-done _ _ notDriven _ _ t m refl h refl)
+  accepted-drive r n h = driven-is f t m r n h
 
   pub accepted-aim : (c : Chassis) → refuseAim f t m c ≡ 0
       → aimOf f t m c ≡ after (aimedBy f (forwardOf m) c (countOf m) (aimedTable f c (countOf m) t)) (aimedTable f c (countOf m) t) (marked m at.AIMED)
-  unfolding aimOf
-  accepted-aim c h = sym (settled-done _ _ notAimed _ _ t m refl h refl)
+  accepted-aim c h = aimed-is f t m c h
+
+-- An aim and the drive after it are rules 1 to 10 of one update, of the chassis that the aim was handed and the table as it was before.
+pub aim-then-drive : (f : Format) (t : List Float) (m : List ℕ) (c : Chassis) (r : Frame) (n : ℕ) → refuseAim f t m c ≡ 0 → refuseDrive f (aimOf f t m c .table) (aimOf f t m c .whole) r n ≡ 0
+    → (aimOf f t m c .reply .speed ≡ updateOf f (upOf m) (forwardOf m) c r n t .speed) × (driveOf f (aimOf f t m c .table) (aimOf f t m c .whole) r n ≡ updated f m c r n t)
+aim-then-drive f t m c r n p q = (update-speed f t m c r n p, update-driven f t m c r n p q)
+
+-- In a table our calls wrote, with the mark aimed, the stored transforms of each used row are those of the kept chassis: rule 1 worked out again changes nothing. Over every history, as above.
+module _ (f : Format) (lent : State) (up forward : ℕ) (l : List Call) (set-up : accepted f (SetUp up forward) lent ≡ true) where
+  pub aimed-transforms : markOf (runAll f (SetUp up forward ∷ l) lent .whole) ≡ at.AIMED → (i : ℕ) → i < countAfter f (SetUp up forward ∷ l) lent
+      → wheelAt (runAll f (SetUp up forward ∷ l) lent .table) i
+      ≡ updateWheelTransform f (chassisAt (runAll f (SetUp up forward ∷ l) lent .table) .pose) (wheelAt (runAll f (SetUp up forward ∷ l) lent .table) i)
+  aimed-transforms aimed i u = placed-from-set-up f lent up forward l set-up aimed i u
+
+  -- so an accepted drive ends one update, rules 1 to 10, of the kept chassis and the table that it finds
+  pub drive-is-update : (r : Frame) (n : ℕ) → accepted f (Drive r n) (runAll f (SetUp up forward ∷ l) lent) ≡ true
+      → driveOf f (runAll f (SetUp up forward ∷ l) lent .table) (runAll f (SetUp up forward ∷ l) lent .whole) r n
+      ≡ updated f (runAll f (SetUp up forward ∷ l) lent .whole) (chassisAt (runAll f (SetUp up forward ∷ l) lent .table)) r n (runAll f (SetUp up forward ∷ l) lent .table)
+  unfolding accepted answered
+  drive-is-update r n h =
+      let now = runAll f (SetUp up forward ∷ l) lent in
+      update-of-placed f (now .table) (now .whole) r n (placed-from-set-up f lent up forward l set-up) (sym (drive-number f (now .table) (now .whole) r n) ∙ eqb-true _ 0 h)
 
 -- ---- Demand 3. "Each tyre gets its own grip and no more." `d` is a drive, with what it is lent and handed; i is the number of a wheel.
 module _ (f : Format) (d : Step) (i : ℕ) where
@@ -183,7 +181,19 @@ module _ (f : Format) (d : Step) (i : ℕ) where
 -- "Between two accepted steps with the same time step, ground bodies, kept chassis, chassis state after the springs, number of grounded wheels and own stored row and hit, no other wheel's settings or contact
 -- change a wheel's two impulses." Nor its skid.
 pub impulses-are-its-own : {f : Format} {d e : Step} {i : ℕ} → Accepted f d → Accepted f e → i < d .n → i < e .n → Alike f d e i
-    → (forwardImpulse f d i ≡ forwardImpulse f e i) × (sideImpulse f d i ≡ sideImpulse f e i)
+    → (forwardImpulse f d i ≡ forwardImpulse f e i) × ((sideImpulse f d i ≡ sideImpulse f e i) × (skidAt f d i ≡ skidAt f e i))
 impulses-are-its-own p q u v a =
     let same = friction-alike p q u v a in
-    (ap (λ (x : Friction). x .forward) same, ap (λ (x : Friction). x .side) same)
+    (ap (λ (x : Friction). x .forward) same, (ap (λ (x : Friction). x .side) same, ap (λ (x : Friction). x .skid) same))
+
+-- ---- "let a finite number be its count of units": the numbers of a table are ones that the format holds. Each call keeps that, so a table our calls wrote has it, and demand 3 speaks of every accepted drive of
+-- one. What a call is handed has to be such numbers; f32 are at binary32.
+pub call-keeps-held : (f : Format) (c : Call) (s : State) → handsHeld f c ≡ true → Held f (s .table) → Held f (run f c s .table)
+call-keeps-held f c s k h = held-of-each f _ (call-held f c s k (each-of-held f (s .table) h))
+
+pub history-is-held : (f : Format) (lent : State) (up forward : ℕ) (l : List Call) → accepted f (SetUp up forward) lent ≡ true → HandsHeld f l → Held f (runAll f (SetUp up forward ∷ l) lent .table)
+history-is-held f lent up forward l a k = held-from-set-up f lent up forward l a k
+
+pub history-is-stepped : (f : Format) (lent : State) (up forward : ℕ) (l : List Call) → accepted f (SetUp up forward) lent ≡ true → HandsHeld f l → (r : Frame) (n i : ℕ)
+    → Accepted f (stepAfter f (SetUp up forward ∷ l) lent r n) → i < n → Stepped f (stepAfter f (SetUp up forward ∷ l) lent r n) i
+history-is-stepped f lent up forward l a k r n i z u = record { accepted = z; held = history-is-held f lent up forward l a k; counted = u }

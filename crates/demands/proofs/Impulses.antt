@@ -1,22 +1,19 @@
--- The impulses of one wheel in an accepted step. In order: what rules 6 to 8 work out of one wheel, as numbers of the format, the grip limit not below 0; what an accepted step has tested of wheel i;
+-- The impulses of one wheel in an accepted step. In order: its force is not below 0; what an accepted step has tested of wheel i;
 -- its impulses as its demands rescaled, and as those of the wheel alone. Assumes nothing.
 use Prim.Native.Nat.{ℕ, _+_, _≤_, _<_}
 use mathlib.Core.Bool.{Bool, true, false, cond}
 use mathlib.Core.List.{List}
 use mathlib.Core.Path.{_≡_, refl, sym, ap, subst, _∙_}
 use native.Mathlib.Omega.{arith}
-use lib.Dec.{T}
 use lib.ListN.{getD}
-use lib.Ieee.{Float, Format, nan, neg, mul, le, lt, ne, fits}
-use lib.Ieee.Fits.{cond-fits, neg-fits, mul-fits, div-fits}
+use lib.Ieee.{Float, Format, nan, le, lt, ne}
 use Rattle.lists.specs.Pick.{pick}
 use Rattle.lists.proofs.Parts.{getD-part}
 use Rattle.lists.proofs.Picks.{pick-true}
 use Rattle.lists.proofs.Turns.{every-at}
 use Rattle.real.specs.Number.{zero}
 use Rattle.real.specs.Units.{count}
-use Rattle.real.specs.Scalar.{within, clampOf, notBelowZero}
-use Rattle.real.proofs.Clamping.{clamp-fits}
+use Rattle.real.specs.Scalar.{within, notBelowZero}
 use Rattle.real.proofs.NotNegative.{zero-le-not-below-zero}
 use Rattle.vector.specs.declared.Vector.{Vector}
 use Rattle.vector.specs.Arithmetic.{dotV}
@@ -25,9 +22,10 @@ use Rattle.body.specs.declared.Chassis.{Chassis}
 use Rattle.tyre.specs.declared.Friction.{Friction}
 use Rattle.tyre.specs.declared.WheelTuning.{WheelTuning}
 use Rattle.tyre.specs.Suspension.{suspensionForce}
-use Rattle.tyre.specs.Demand.{sideResponse, rollingResponse, rollingOf}
-use Rattle.tyre.specs.Grip.{skidOf, withSkid, airborne, rescaledBy, rescaledOf, brakedOf, limitOf}
+use Rattle.tyre.specs.Demand.{rollingResponse, rollingOf}
+use Rattle.tyre.specs.Grip.{skidOf, withSkid, airborne, rescaledBy, rescaledOf, brakedOf}
 use Rattle.tyre.specs.Demand3.{Admitted, Brake, WithinBrake}
+use Rattle.tyre.proofs.GripCircle.{small-of-admitted, sized-of-small}
 use Rattle.tyre.proofs.Demand3.{unpowered as unpowered-within, limit-not-negative}
 use Rattle.wheel.specs.declared.Settings.{Settings}
 use Rattle.wheel.specs.declared.Wheel.{Wheel}
@@ -54,35 +52,11 @@ use Rattle.drive.specs.declared.Driven.{Driven}
 use Rattle.drive.specs.Drive.{driveUnder, driveOf, refuseDrive, notDriven}
 use Rattle.drive.proofs.Accepted.{DriveTested, drive-says}
 use Rattle.demands.specs.Impulses.{Step, Accepted, Stepped, Grounded, storedWheel, demandingWheel, drivenWheel, forwardDemand, sideDemand, gripLimit, forwardImpulse, sideImpulse, brakeOf, poweredAt, Alike}
+use Rattle.demands.proofs.Each.{each-of-held, number-fits}
+use Rattle.demands.proofs.HeldRules.{zero-fits, uncut-fits, rolling-fits, side-fits, limit-fits}
 use Rattle.demands.proofs.Passed.{sprungWheel, sprung-keeps-controls, sprung-keeps-settings, wheel-demanded, friction-stepped, friction-alone}
 
--- ---- one wheel: its demands and its limit are numbers of the format
-rolled-fits : (f : Format) (dt engine brake uncut : Float) → T (fits f brake) → T (fits f uncut) → T (fits f (rollingOf f dt engine brake uncut))
-unfolding rollingOf brakedOf
-rolled-fits f dt engine brake uncut b u =
-    cond-fits f (ne engine zero) (mul f engine dt) (clampOf uncut (neg brake) brake) (mul-fits f engine dt) (clamp-fits f (neg brake) brake uncut (neg-fits f brake b) b u)
-
-module _ (f : Format) (own : WheelTuning) (dt : Float) (body : Body) (ground : Ground) (grounded : ℕ) (axis forward : Vector) (w : Wheel) where
-  -- rule 7's rolling demand before the clamp
-  abbrev uncutDemand : Float
-  uncutDemand = rollingResponse f (dotV f forward (relativeVelocity f body ground (w .info .point))) (denominatorsOf f body ground (w .info .point) forward) grounded
-
-  uncut-fits : T (fits f uncutDemand)
-  unfolding rollingResponse
-  uncut-fits = div-fits f _ _
-
-  rolling-fits : T (fits f (w .controls .brake)) → T (fits f (rollingDemand f dt body ground grounded forward w))
-  unfolding rollingDemand
-  rolling-fits b = rolled-fits f dt (w .controls .engine) (w .controls .brake) uncutDemand b uncut-fits
-
-  side-fits : T (fits f (step.sideDemand f own body ground axis w))
-  unfolding step.sideDemand sideResponse
-  side-fits = mul-fits f _ _
-
-  limit-fits : T (fits f (wheelLimit f own dt w))
-  unfolding wheelLimit limitOf
-  limit-fits = mul-fits f _ _
-
+-- ---- one wheel
 -- rule 6: the force is not below 0
 force-not-negative : (f : Format) (own : WheelTuning) (kept : Body) (answer : RayAnswer) (w : Wheel) → le zero (sprungWheel f own kept answer w .motion .force) ≡ true
 unfolding suspendedOf wheelForce contactForce suspensionForce
@@ -141,7 +115,7 @@ brake-of-stepped {f} {d} {i} s =
     let u = s .counted in
     record {
       admitted = record {
-        held = rw (brake-at (d .table) i) (s .held (rowStart i + (at.CONTROLS-AT + at.BRAKE)));
+        held = rw (brake-at (d .table) i) (number-fits f (d .table) (rowStart i + (at.CONTROLS-AT + at.BRAKE)) (each-of-held f (d .table) (s .held)));
         bounded = rw (brake-at (d .table) i) (stored-within-says (d .table) (d .n) (rowStart i + (at.CONTROLS-AT + at.BRAKE)) (tested .early .frame .shape .sized) l (tested .early .stored) (omega arith));
       };
       at-least = wheel-says f (d .table) i (stored-settings-say f (d .table) (d .n) i (tested .early .ranges) u) .controls .brake;
@@ -211,19 +185,19 @@ module _ (f : Format) (d : Step) (i : ℕ) (g : Grounded f d i) where
   forward-admitted =
       let b = brake-of-stepped (g .stepped) .admitted .held in
       record {
-        held = rw forward-is (rolling-fits f (hung .settings .tuning) (d .frame .dt) (bodyIn f d) (groundIn d i) (groundedIn d) axis forward hung (rw (sprung-keeps-controls f _ _ _ (storedWheel d i)) b));
+        held = rw forward-is (rolling-fits f (d .frame .dt) (bodyIn f d) (groundIn d i) (groundedIn d) forward hung (rw (sprung-keeps-controls f _ _ _ (storedWheel d i)) b));
         bounded = pick-true _ _ admitted-seven .0;
       }
 
   pub side-admitted : Admitted f (sideDemand f d i)
   unfolding admits
   side-admitted =
-      record { held = rw side-is (side-fits f (hung .settings .tuning) (d .frame .dt) (bodyIn f d) (groundIn d i) (groundedIn d) axis forward hung); bounded = pick-true _ _ (pick-true _ _ admitted-seven .1) .0 }
+      record { held = rw side-is (side-fits f (hung .settings .tuning) (bodyIn f d) (groundIn d i) axis hung); bounded = pick-true _ _ (pick-true _ _ admitted-seven .1) .0 }
 
   pub limit-admitted : Admitted f (gripLimit f d i)
   unfolding admits
   limit-admitted =
-      record { held = limit-fits f (demandingWheel f d i .settings .tuning) (d .frame .dt) (bodyIn f d) (groundIn d i) (groundedIn d) axis forward (demandingWheel f d i); bounded = pick-true _ _ (pick-true _ _ admitted-seven .1) .1 }
+      record { held = limit-fits f (demandingWheel f d i .settings .tuning) (d .frame .dt) (demandingWheel f d i); bounded = pick-true _ _ (pick-true _ _ admitted-seven .1) .1 }
 
   -- the limit is not negative
   pub limit-at-least : le zero (gripLimit f d i) ≡ true
@@ -245,14 +219,15 @@ module _ (f : Format) (d : Step) (i : ℕ) (s : Stepped f d i) (unpowered : powe
   grounded-within-brake contact =
       let g : Grounded f d i = record { stepped = s; contact = contact } in
       let w = sprungAt f d i in
-      let uncut = uncutDemand f (w .settings .tuning) (d .frame .dt) (bodyIn f d) (groundIn d i) (groundedIn d) (directionsOf f w .axis) (directionsOf f w .forward) w in
+      let ahead = directionsOf f w .forward in
+      let uncut = rollingResponse f (dotV f ahead (relativeVelocity f (bodyIn f d) (groundIn d i) (w .info .point))) (denominatorsOf f (bodyIn f d) (groundIn d i) (w .info .point) ahead) (groundedIn d) in
       let braked : forwardDemand f d i ≡ brakedOf (brakeOf d i) uncut =
       forward-is f d i g
       ∙ ap (λ (c : Controls). rollingOf f (d .frame .dt) (c .engine) (c .brake) uncut) (sprung-keeps-controls f _ _ _ (storedWheel d i))
       ∙ rolled-unpowered f (d .frame .dt) (storedWheel d i .controls .engine) (brakeOf d i) uncut unpowered in
       let within =
       unpowered-within f (brakeOf d i) uncut (sideDemand f d i) (gripLimit f d i) (brake-of-stepped s)
-      (uncut-fits f (w .settings .tuning) (d .frame .dt) (bodyIn f d) (groundIn d i) (groundedIn d) (directionsOf f w .axis) (directionsOf f w .forward) w) (subst (Admitted f) braked (forward-admitted f d i g)) (limit-at-least f d i g) in
+      (uncut-fits f _ _ (groundedIn d)) (subst (Admitted f) braked (forward-admitted f d i g)) (limit-at-least f d i g) in
       subst (WithinBrake f (brakeOf d i)) (sym (forward-rescaled f d i g))
       (subst (λ (x : Float). WithinBrake f (brakeOf d i) (rescaledBy f (skidOf f x (sideDemand f d i) (gripLimit f d i)) x)) (sym braked) within)
 
@@ -262,7 +237,7 @@ module _ (f : Format) (d : Step) (i : ℕ) (s : Stepped f d i) (unpowered : powe
       let demand : demandingWheel f d i ≡ withFriction (sprungAt f d i) airborne = rw contact at (demand-of f d (s .accepted) i (s .counted)) in
       let none : forwardImpulse f d i ≡ zero =
       ap (λ (x : Friction). x .forward) (friction-of-demand f d (s .accepted) i (s .counted)) ∙ ap (λ (x : Wheel). rescaledOf f (frictionIn x) .forward) demand in
-      subst (WithinBrake f (brakeOf d i)) (sym none) (record { is-finite = tt; at-most = zero-counts f })
+      subst (WithinBrake f (brakeOf d i)) (sym none) (record { impulse-sized = record { held = zero-fits f; is-finite = tt }; brake-sized = sized-of-small (small-of-admitted (brake-of-stepped s .admitted)); at-most = zero-counts f })
     where
       zero-counts : (f : Format) → count f zero ≤ count f (brakeOf d i)
       zero-counts f = omega arith

@@ -73,7 +73,7 @@ module _ {R : Type 0} (of : R → ℕ) (makes takes : Bool) (number : ℕ) (refu
 abbrev LeftBy : Format → Call → State → Type 0
 LeftBy f c s = Left (drives c) (undrives c) (s .whole) (answered f c s)
 
-set-up-shape : {t : List Float} {m : List ℕ} (up forward : ℕ) → SetUpTested t m up forward → Shape (replicate at.SIZE real.zero) (0 ∷ at.NEW ∷ up ∷ forward ∷ [])
+pub set-up-shape : {t : List Float} {m : List ℕ} (up forward : ℕ) → SetUpTested t m up forward → Shape (replicate at.SIZE real.zero) (0 ∷ at.NEW ∷ up ∷ forward ∷ [])
 set-up-shape up forward a =
     record { sized = length-replicate at.SIZE real.zero; four = refl; room = omega arith; marked = omega arith; up = a .up-axis; forward = a .forward-axis }
 
@@ -176,10 +176,10 @@ pub record FromSetUp (f : Format) (l : List Call) (s : State) : Type 0 where
   pub mark : isDriven (runAll f l s .whole) ≡ drivenSince f l s
 
 -- what an accepted set-up leaves
-abbrev fresh : ℕ → ℕ → State
+abbrev pub fresh : ℕ → ℕ → State
 fresh up forward = state (replicate at.SIZE real.zero) (0 ∷ at.NEW ∷ up ∷ forward ∷ [])
 
-set-up-leaves : (f : Format) (lent : State) (up forward : ℕ) → accepted f (SetUp up forward) lent ≡ true → (run f (SetUp up forward) lent ≡ fresh up forward) × SetUpTested (lent .table) (lent .whole) up forward
+pub set-up-leaves : (f : Format) (lent : State) (up forward : ℕ) → accepted f (SetUp up forward) lent ≡ true → (run f (SetUp up forward) lent ≡ fresh up forward) × SetUpTested (lent .table) (lent .whole) up forward
 unfolding run accepted answered setUp
 set-up-leaves f lent up forward h =
     let number = refuseSetUp (lent .table) (lent .whole) up forward in

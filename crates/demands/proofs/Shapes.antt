@@ -34,8 +34,11 @@ module _ (m : List ℕ) (four : length m ≡ at.WHOLE) where
   pub mark-marked : (mark : ℕ) → markOf (marked m mark) ≡ mark
   mark-marked mark = set-same at.MARK mark (omega arith)
 
-  pub mark-counted : (n : ℕ) → markOf (set m at.COUNT n) ≡ markOf m
-  mark-counted n = set-other at.COUNT at.MARK n (λ e. omega arith)
+  pub up-marked : (mark : ℕ) → upOf (marked m mark) ≡ upOf m
+  up-marked mark = set-other at.MARK at.UP mark (λ e. omega arith)
+
+  pub count-marked : (mark : ℕ) → countOf (marked m mark) ≡ countOf m
+  count-marked mark = set-other at.MARK at.COUNT mark (λ e. omega arith)
 
 pub shape-marked : {t : List Float} {m : List ℕ} → Shape t m → (mark : ℕ) → mark ≤ at.DRIVEN → Shape t (marked m mark)
 shape-marked {t} {m} s mark l =

@@ -3,9 +3,7 @@ use Prim.Native.Nat.{ℕ, _<_}
 use mathlib.Core.Bool.{Bool, true}
 use mathlib.Core.List.{List}
 use mathlib.Core.Path.{_≡_}
-use lib.Dec.{T}
-use lib.ListN.{getD}
-use lib.Ieee.{Float, Format, nan, fits, ne}
+use lib.Ieee.{Float, Format, ne}
 use Rattle.real.specs.Number.{zero}
 use Rattle.wheel.specs.declared.Wheel.{Wheel}
 use Rattle.tyre.specs.Grip.{slides}
@@ -15,10 +13,8 @@ use Rattle.ground.specs.Frame.{Frame, groundedAt, groundedWheels}
 use Rattle.passes.specs.Passes.{stored}
 use Rattle.passes.specs.Step.{sprung, demandStep}
 use Rattle.drive.specs.Drive.{driveOf, refuseDrive}
-
--- each number of a table is one that the format holds: a lent slice of f32 has no others at binary32
-abbrev pub Held : Format → List Float → Type 0
-Held f t = (k : ℕ) → T (fits f (getD t k nan))
+use Rattle.demands.specs.History.{State, Call, runAll}
+use Rattle.demands.specs.Held.{Held}
 
 -- a drive: what it is lent, what it is handed, and how many ray answers that has
 pub record Step : Type 0 where
@@ -26,6 +22,10 @@ pub record Step : Type 0 where
   pub whole : List ℕ
   pub frame : Frame
   pub n : ℕ
+
+-- a drive after a list of calls
+abbrev pub stepAfter : Format → List Call → State → Frame → ℕ → Step
+stepAfter f l s frame n = record { table = runAll f l s .table; whole = runAll f l s .whole; frame = frame; n = n }
 
 -- no refusal
 abbrev pub Accepted : Format → Step → Type 0
@@ -52,7 +52,7 @@ demandingWheel f d i = wheelAt (demandStep f stored (d .frame) (d .n) (d .table)
 abbrev pub drivenWheel : Format → Step → ℕ → Wheel
 drivenWheel f d i = wheelAt (driveOf f (d .table) (d .whole) (d .frame) (d .n) .table) i
 
--- "its demand", "grip limit", "its two impulses", "its brake"
+-- "its demand", "grip limit", "its two impulses", its skid, "its brake"
 abbrev pub forwardDemand : Format → Step → ℕ → Float
 forwardDemand f d i = demandingWheel f d i .motion .forward
 
@@ -67,6 +67,9 @@ forwardImpulse f d i = drivenWheel f d i .motion .forward
 
 abbrev pub sideImpulse : Format → Step → ℕ → Float
 sideImpulse f d i = drivenWheel f d i .motion .side
+
+abbrev pub skidAt : Format → Step → ℕ → Float
+skidAt f d i = drivenWheel f d i .motion .skid
 
 abbrev pub brakeOf : Step → ℕ → Float
 brakeOf d i = storedWheel d i .controls .brake

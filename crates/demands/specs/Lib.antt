@@ -1,3 +1,6 @@
 pub mod History
-pub mod Same
+pub mod Answers
+pub mod Held
+pub mod Update
 pub mod Impulses
+pub mod Same

@@ -1,4 +1,4 @@
--- Rules 7 and 8 of an unpowered wheel, on the values of the program: a demand that skid rescales is no larger afterwards, since skid is a value that is not negative (skid-fits, skid-not-negative, rescaled-le);
+-- Rules 7 and 8 of an unpowered wheel, on the values of the program: a demand that skid rescales is no larger afterwards, since skid is a value that is not negative (one-fits, rescaled-fits, skid-fits, skid-not-negative, rescaled-le);
 -- and a brake is a bound to clamp to (brake-signed). Assumes nothing.
 use mathlib.Core.Path.{_≡_, refl}
 use Prim.Native.Nat.{_≤_}
@@ -21,16 +21,20 @@ use Rattle.tyre.specs.Grip.{loadOf, slides, skidOf, rescaledBy}
 use Rattle.tyre.specs.Demand3.{Brake}
 use Rattle.tyre.proofs.GripCircle.{small-of-admitted}
 
+pub one-fits : (f : Format) → T (fits f one)
+one-fits binary32 = unfold fits in tt
+one-fits binary64 = unfold fits in tt
+
+pub rescaled-fits : (f : Format) (skid v : Float) → T (fits f v) → T (fits f (rescaledBy f skid v))
+unfolding rescaledBy
+rescaled-fits f skid v h = cond-fits f (lt skid one) (mul f v skid) v (mul-fits f v skid) h
+
 module _ (f : Format) (forward side limit : Float) where
   pub skid-fits : T (fits f (skidOf f forward side limit))
   unfolding skidOf
   skid-fits =
       let inverse = inverseOf f (rootOf f (loadOf f forward side)) in
       cond-fits f (slides f forward side limit) (mul f limit inverse) one (mul-fits f limit inverse) (one-fits f)
-    where
-      one-fits : (f : Format) → T (fits f one)
-      one-fits binary32 = unfold fits in tt
-      one-fits binary64 = unfold fits in tt
 
   pub skid-not-negative : NotNegative limit → NotNegative (skidOf f forward side limit)
   unfolding skidOf

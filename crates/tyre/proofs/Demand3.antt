@@ -14,8 +14,8 @@ use Rattle.real.proofs.Clamping.{clamp-le, not-nan-of-clamp}
 use Rattle.tyre.specs.Grip.{slides, skidOf, rescaledBy, brakedOf, limitOf}
 use Rattle.tyre.specs.Demand3.{precision, Grips, WithinBrake, Admitted, GripLimit, Brake}
 use Rattle.tyre.proofs.Ranges.{ranges}
-use Rattle.tyre.proofs.GripCircle.{small-of-admitted, grips}
-use Rattle.tyre.proofs.Brake.{skid-fits, skid-not-negative, rescaled-le, brake-signed}
+use Rattle.tyre.proofs.GripCircle.{small-of-admitted, sized-of-small, grips}
+use Rattle.tyre.proofs.Brake.{skid-fits, rescaled-fits, skid-not-negative, rescaled-le, brake-signed}
 
 -- "If its demand does not pass the slide test, its two impulses are exactly the demand."
 pub not-sliding : (f : Format) (forward side limit : Float) → slides f forward side limit ≡ false
@@ -50,7 +50,7 @@ unpowered f brake rolling side limit b g a h =
     let s = small-of-admitted a in
     let n = not-nan-of-clamp (neg brake) brake rolling (s .fine) in
     let r = rescaled-le f (skidOf f forward side limit) forward (skid-fits f forward side limit) (skid-not-negative f forward side limit (not-negative-of-le limit h)) (s .fit) (s .fine) in
-    record { is-finite = r .0; at-most = le-trans (r .1) (clamp-le (brake-signed b) rolling g n) }
+    record { impulse-sized = record { held = rescaled-fits f (skidOf f forward side limit) forward (s .fit); is-finite = r .0 }; brake-sized = sized-of-small (small-of-admitted (b .admitted)); at-most = le-trans (r .1) (clamp-le (brake-signed b) rolling g n) }
 
 -- rule 6: a grip limit that refusal 7 lets through is not negative
 pub limit-not-negative : (f : Format) (force dt slip : Float) → le zero force ≡ true → le zero dt ≡ true → le zero slip ≡ true → Admitted f (limitOf f force dt slip) → le zero (limitOf f force dt slip) ≡ true

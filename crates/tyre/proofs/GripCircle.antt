@@ -7,7 +7,7 @@ use mathlib.Core.Bool.{Bool, true, false, cond}
 use lib.Dec.{T, lit≤}
 use lib.Pow.{pow-pos}
 use lib.Ieee.{Float, Format, low, unlike, mul, lt, fits}
-use lib.Ieee.Fits.{add-fits}
+use lib.Ieee.Fits.{add-fits, mul-fits}
 use lib.Ieee.Positive.{positive-of-value}
 use Rattle.real.specs.Number.{one, half}
 use Rattle.real.specs.Root.{rootOf}
@@ -19,7 +19,7 @@ use Rattle.real.proofs.Rounding.{parts, parts-pos, rounded-of-scaled, Rounds, m
 use Rattle.real.proofs.RootRounds.{RootRounds, root-rounds}
 use Rattle.real.proofs.Bounds.{Bounded, bounded-counted, within-power, count-lt-of-lt, count-le-of-not-lt}
 use Rattle.tyre.specs.Grip.{loadOf, slides, skidOf, rescaledBy}
-use Rattle.tyre.specs.Demand3.{precision, Grips, Admitted}
+use Rattle.tyre.specs.Demand3.{precision, Sized, Grips, Admitted}
 use Rattle.tyre.proofs.Ranges.{least, ranges}
 use Rattle.tyre.proofs.Chain.{fourfold, Test, Skid, root-pos, inverse-most, uncut-near, cut-near}
 
@@ -33,13 +33,17 @@ small-of-admitted {f} {x} a = within-power f 40 x (a .held) (a .bounded)
 square-small : {f : Format} {x : Float} {s : Bool} {a : ℕ} → Counted f x s a → a ≤ 2 ^ 40 * unit f → Rounds f (mul f x x) false (a * a) (unit f) (2 ^ 80 * unit f)
 square-small {f} h l = square-rounds h (power-holds f 80 (lit≤ tt)) (omega (arith, mul-le-mul l l))
 
+-- such a number has a size
+pub sized-of-small : {f : Format} {x : Float} → Small f x → Sized f x
+sized-of-small b = record { held = b .fit; is-finite = b .fine }
+
 -- fourteen steps are within the precision asked
-grips-of-near : {f : Format} {p q : Float} {s t : Bool} {a b : ℕ} (limit : Float) → Counted f p s a → Counted f q t b → Near (parts f) 14 (fourfold a b) (count f limit * count f limit * 4) → Grips f (precision f) p q limit
-grips-of-near {f} {a = a} {b} limit h k n =
+grips-of-near : {f : Format} {p q limit : Float} {s t : Bool} {a b : ℕ} → Sized f limit → T (fits f p) → T (fits f q) → Counted f p s a → Counted f q t b → Near (parts f) 14 (fourfold a b) (count f limit * count f limit * 4) → Grips f (precision f) p q limit
+grips-of-near {f} {limit = limit} {a = a} {b} l u v h k n =
     let l² = count f limit * count f limit in
     let above : fourfold a b * precision f ≤ l² * 4 * suc (precision f) = le-of-by (precision f) (suc (precision f)) (parts-pos f) (ranges f .margin-above) (n .above) in
     let below : l² * 4 * (precision f - 1) ≤ fourfold a b * precision f = le-of-by (precision f - 1) (precision f) (parts-pos f) (ranges f .margin-below) (n .below) in
-    record { forward-finite = finite-of h; side-finite = finite-of k; at-most = rw (count-of h, count-of k) (omega arith); at-least = rw (count-of h, count-of k) (omega arith) }
+    record { forward-sized = record { held = u; is-finite = finite-of h }; side-sized = record { held = v; is-finite = finite-of k }; limit-sized = l; at-most = rw (count-of h, count-of k) (omega arith); at-least = rw (count-of h, count-of k) (omega arith) }
 
 -- skid, where the slide test passes
 abbrev skidding : Format → Float → Float → Float → Float
@@ -128,8 +132,8 @@ module _ {f : Format} {forward side limit : Float} (bf : Small f forward) (bs : 
               let h : skid .units < unit f = count-lt-of-lt (skid .counted) (one-counted f) e in
               let p = times-skid bf h in
               let q = times-skid bs h in
-              grips-of-near limit (p .counted) (q .counted) (cut-near test large skids (p .rounded) (q .rounded))
-          either false e = grips-of-near limit (bounded-counted bf) (bounded-counted bs) (uncut-near test large skids (count-le-of-not-lt (skid .counted) (one-counted f) e))
+              grips-of-near (sized-of-small bl) (mul-fits f _ _) (mul-fits f _ _) (p .counted) (q .counted) (cut-near test large skids (p .rounded) (q .rounded))
+          either false e = grips-of-near (sized-of-small bl) (bf .fit) (bs .fit) (bounded-counted bf) (bounded-counted bs) (uncut-near test large skids (count-le-of-not-lt (skid .counted) (one-counted f) e))
 
       pub grips : Grips f (precision f) (rescaledBy f (skidOf f forward side limit) forward) (rescaledBy f (skidOf f forward side limit) side) limit
       unfolding skidOf

@@ -16,17 +16,24 @@ abbrev pub precision : Format → ℕ
 precision binary32 = 2 ^ 20
 precision binary64 = 2 ^ 48
 
+-- x is finite and the format holds it, so that `count f x` is its size in units
+pub record Sized (f : Format) (x : Float) : Type 0 where
+  pub held : T (fits f x)
+  pub is-finite : T (finite x)
+
 -- "a quarter of the forward impulse squared plus the side impulse squared is .. within one part in" E "of the limit squared":
--- both are finite, and |forward² / 4 + side² − limit²| ≤ limit² / E, multiplied by 4 E
+-- each has a size, and |forward² / 4 + side² − limit²| ≤ limit² / E, multiplied by 4 E
 pub record Grips (f : Format) (E : ℕ) (forward side limit : Float) : Type 0 where
-  pub forward-finite : T (finite forward)
-  pub side-finite : T (finite side)
+  pub forward-sized : Sized f forward
+  pub side-sized : Sized f side
+  pub limit-sized : Sized f limit
   pub at-most : (count f forward * count f forward + 4 * (count f side * count f side)) * E ≤ 4 * (count f limit * count f limit) * (E + 1)
   pub at-least : 4 * (count f limit * count f limit) * (E - 1) ≤ (count f forward * count f forward + 4 * (count f side * count f side)) * E
 
--- the impulse is finite, and "never exceeds its brake in size"
+-- both have a size, and the impulse "never exceeds its brake in size"
 pub record WithinBrake (f : Format) (brake impulse : Float) : Type 0 where
-  pub is-finite : T (finite impulse)
+  pub impulse-sized : Sized f impulse
+  pub brake-sized : Sized f brake
   pub at-most : count f impulse ≤ count f brake
 
 -- refusals 2 and 7 let x through: it is a number of the format, no NaN, and at most 2^40 in magnitude

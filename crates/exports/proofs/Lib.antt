@@ -1,0 +1,2 @@
+-- That the contracts of the exported calls determine their replies.
+pub mod Determined
