@@ -13,9 +13,8 @@ use Rattle.tyre.specs.declared.Friction.{Friction}
 use Rattle.tyre.specs.Grip.{skidOf, rescaledBy}
 use Rattle.tyre.specs.Demand3.{precision, Grips, WithinBrake, leastLimit}
 use Rattle.tyre.proofs.Demand3.{not-sliding, sliding}
-use Rattle.wheel.specs.Ray.{updateWheelTransform}
 use Rattle.table.specs.Layout as at
-use Rattle.table.specs.Rows.{wheelAt, chassisAt}
+use Rattle.table.specs.Rows.{chassisAt}
 use Rattle.ground.specs.Frame.{Frame}
 use Rattle.refusals.specs.Shape.{countOf, markOf, upOf, forwardOf}
 use Rattle.refusals.specs.After.{After, after, settled, marked}
@@ -32,7 +31,7 @@ use Rattle.drive.specs.Drive.{driveUnder, driveOf, refuseDrive, notDriven, driv
 use Rattle.demands.specs.History.{State, Call, SetUp, Drive, ReadWheel, answered, accepted, run, runAll, drivenSince, countAfter, readAfter}
 use Rattle.demands.specs.Answers.{isOneOf, answers}
 use Rattle.demands.specs.Held.{Held, handsHeld, HandsHeld}
-use Rattle.demands.specs.Update.{updateOf, updated}
+use Rattle.demands.specs.Update.{Placed, updateOf, updated}
 use Rattle.demands.specs.Impulses.{Step, stepAfter, Accepted, Stepped, Grounded, forwardDemand, sideDemand, gripLimit, forwardImpulse, sideImpulse, skidAt, brakeOf, slidesAt, poweredAt, Alike}
 use Rattle.demands.proofs.Marks.{history-from-set-up}
 use Rattle.demands.proofs.Five.{five-of-not-driven, not-five-of-driven}
@@ -144,18 +143,16 @@ aim-then-drive f t m c r n p q = (update-speed f t m c r n p, update-driven f t 
 
 -- In a table our calls wrote, with the mark aimed, the stored transforms of each used row are those of the kept chassis: rule 1 worked out again changes nothing. Over every history, as above.
 module _ (f : Format) (lent : State) (up forward : ℕ) (l : List Call) (set-up : accepted f (SetUp up forward) lent ≡ true) where
-  pub aimed-transforms : markOf (runAll f (SetUp up forward ∷ l) lent .whole) ≡ at.AIMED → (i : ℕ) → i < countAfter f (SetUp up forward ∷ l) lent
-      → wheelAt (runAll f (SetUp up forward ∷ l) lent .table) i
-      ≡ updateWheelTransform f (chassisAt (runAll f (SetUp up forward ∷ l) lent .table) .pose) (wheelAt (runAll f (SetUp up forward ∷ l) lent .table) i)
+  abbrev pub now : State
+  now = runAll f (SetUp up forward ∷ l) lent
+
+  pub aimed-transforms : markOf (now .whole) ≡ at.AIMED → (i : ℕ) → i < countOf (now .whole) → Placed f (now .table) i
   aimed-transforms aimed i u = placed-from-set-up f lent up forward l set-up aimed i u
 
   -- so an accepted drive ends one update, rules 1 to 10, of the kept chassis and the table that it finds
-  pub drive-is-update : (r : Frame) (n : ℕ) → accepted f (Drive r n) (runAll f (SetUp up forward ∷ l) lent) ≡ true
-      → driveOf f (runAll f (SetUp up forward ∷ l) lent .table) (runAll f (SetUp up forward ∷ l) lent .whole) r n
-      ≡ updated f (runAll f (SetUp up forward ∷ l) lent .whole) (chassisAt (runAll f (SetUp up forward ∷ l) lent .table)) r n (runAll f (SetUp up forward ∷ l) lent .table)
+  pub drive-is-update : (r : Frame) (n : ℕ) → accepted f (Drive r n) now ≡ true → driveOf f (now .table) (now .whole) r n ≡ updated f (now .whole) (chassisAt (now .table)) r n (now .table)
   unfolding accepted answered
   drive-is-update r n h =
-      let now = runAll f (SetUp up forward ∷ l) lent in
       update-of-placed f (now .table) (now .whole) r n (placed-from-set-up f lent up forward l set-up) (sym (drive-number f (now .table) (now .whole) r n) ∙ eqb-true _ 0 h)
 
 -- ---- Demand 3. "Each tyre gets its own grip and no more." `d` is a drive, with what it is lent and handed; i is the number of a wheel.
@@ -186,14 +183,14 @@ impulses-are-its-own p q u v a =
     let same = friction-alike p q u v a in
     (ap (λ (x : Friction). x .forward) same, (ap (λ (x : Friction). x .side) same, ap (λ (x : Friction). x .skid) same))
 
--- ---- "let a finite number be its count of units": the numbers of a table are ones that the format holds. Each call keeps that, so a table our calls wrote has it, and demand 3 speaks of every accepted drive of
--- one. What a call is handed has to be such numbers; f32 are at binary32.
+-- ---- "a finite number is its count of units" (document 01): of a number that the format holds. Each call keeps a table of such numbers, so a table our calls wrote is one, and demand 3 speaks of every accepted drive
+-- of it. What the calls are handed has to be numbers of the format; f32 are those of binary32.
 pub call-keeps-held : (f : Format) (c : Call) (s : State) → handsHeld f c ≡ true → Held f (s .table) → Held f (run f c s .table)
 call-keeps-held f c s k h = held-of-each f _ (call-held f c s k (each-of-held f (s .table) h))
 
-pub history-is-held : (f : Format) (lent : State) (up forward : ℕ) (l : List Call) → accepted f (SetUp up forward) lent ≡ true → HandsHeld f l → Held f (runAll f (SetUp up forward ∷ l) lent .table)
-history-is-held f lent up forward l a k = held-from-set-up f lent up forward l a k
+module _ (f : Format) (lent : State) (up forward : ℕ) (l : List Call) (set-up : accepted f (SetUp up forward) lent ≡ true) (handed : HandsHeld f l) where
+  pub history-is-held : Held f (runAll f (SetUp up forward ∷ l) lent .table)
+  history-is-held = held-from-set-up f lent up forward l set-up handed
 
-pub history-is-stepped : (f : Format) (lent : State) (up forward : ℕ) (l : List Call) → accepted f (SetUp up forward) lent ≡ true → HandsHeld f l → (r : Frame) (n i : ℕ)
-    → Accepted f (stepAfter f (SetUp up forward ∷ l) lent r n) → i < n → Stepped f (stepAfter f (SetUp up forward ∷ l) lent r n) i
-history-is-stepped f lent up forward l a k r n i z u = record { accepted = z; held = history-is-held f lent up forward l a k; counted = u }
+  pub history-is-stepped : (r : Frame) (n i : ℕ) → Accepted f (stepAfter f (SetUp up forward ∷ l) lent r n) → i < n → Stepped f (stepAfter f (SetUp up forward ∷ l) lent r n) i
+  history-is-stepped r n i z u = record { accepted = z; held = history-is-held; counted = u }

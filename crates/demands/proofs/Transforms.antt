@@ -34,6 +34,7 @@ use Rattle.read_wheel.specs.Read.{readWheel}
 use Rattle.aim.specs.Aim.{aimOf, aimedTable}
 use Rattle.drive.specs.Drive.{driveUnder, driveOf}
 use Rattle.demands.specs.History.{State, Call, SetUp, AddWheel, SetControls, Aim, Drive, ReadWheel, answered, accepted, run, runAll}
+use Rattle.demands.specs.Update.{Placed}
 use Rattle.demands.proofs.Shapes.{mark-marked, count-marked}
 use Rattle.demands.proofs.Marks.{fresh, set-up-shape, set-up-leaves, left-by}
 
@@ -80,10 +81,10 @@ unfolding putChassis chassisAt
 chassis-back t s = ap (paste t 0) (list-of-chassis (part t 0 at.KEPT) (length-part t 0 at.KEPT (omega arith))) ∙ paste-part t 0 at.KEPT (omega arith)
 
 -- ---- the first n wheels of a table are placed under its kept chassis
-abbrev pub Placed : Format → List Float → ℕ → Type 0
-Placed f t n = (i : ℕ) → i < n → wheelAt t i ≡ updateWheelTransform f (chassisAt t .pose) (wheelAt t i)
+abbrev pub AllPlaced : Format → List Float → ℕ → Type 0
+AllPlaced f t n = (i : ℕ) → i < n → Placed f t i
 
-pub placed-by-aim : (f : Format) (c : Chassis) (n : ℕ) (t : List Float) → length t ≡ at.SIZE → n ≤ at.WHEELS → Placed f (aimedTable f c n t) n
+pub placed-by-aim : (f : Format) (c : Chassis) (n : ℕ) (t : List Float) → length t ≡ at.SIZE → n ≤ at.WHEELS → AllPlaced f (aimedTable f c n t) n
 unfolding aimedTable transforms transformAt
 placed-by-aim f c n t s l i u =
     let t' = putChassis t c in
@@ -95,7 +96,7 @@ placed-by-aim f c n t s l i u =
     ∙ ap (λ (x : Chassis). updateWheelTransform f (x .pose) (wheelAt (eachWheel (transformAt f (c .pose)) n t') i)) (sym kept)
 
 -- so that rule 1 under the kept chassis leaves the table as it is
-pub placed-again : (f : Format) (t : List Float) (n : ℕ) → length t ≡ at.SIZE → n ≤ at.WHEELS → Placed f t n → transforms f (chassisAt t .pose) n (putChassis t (chassisAt t)) ≡ t
+pub placed-again : (f : Format) (t : List Float) (n : ℕ) → length t ≡ at.SIZE → n ≤ at.WHEELS → AllPlaced f t n → transforms f (chassisAt t .pose) n (putChassis t (chassisAt t)) ≡ t
 unfolding transforms transformAt eachWheel changed
 placed-again f t n s l p =
     ap (iter (changed (transformAt f (chassisAt t .pose))) n 0) (chassis-back t s)
@@ -104,7 +105,7 @@ placed-again f t n s l p =
 
 -- ---- a state whose wheels are placed if its mark is aimed
 abbrev pub PlacedIfAimed : Format → List Float → List ℕ → Type 0
-PlacedIfAimed f t m = markOf m ≡ at.AIMED → Placed f t (countOf m)
+PlacedIfAimed f t m = markOf m ≡ at.AIMED → AllPlaced f t (countOf m)
 
 not-aimed : (f : Format) (t : List Float) (m : List ℕ) (mark : ℕ) → markOf m ≡ mark → (mark ≡ at.AIMED → ⊥) → PlacedIfAimed f t m
 not-aimed f t m mark e ne h = absurd (ne (sym e ∙ h))

@@ -62,7 +62,8 @@ module _ (f : Format) (t : List Float) (m : List ℕ) where
   update-of-placed r n placed h =
       let a = drive-says f t m r n h .early .frame in
       let same = placed-again f t n (a .shape .sized) (let e = a .each in let l = a .shape .room in omega arith) (rw (a .each) (placed (a .aimed))) in
-      rw same (driven-is f t m r n h)
+      driven-is f t m r n h
+      ∙ ap (λ (x : List Float). after (drivenBy t n (wholeStep f stored (upOf m) r n x)) (wholeStep f stored (upOf m) r n x .table) (marked m at.DRIVEN)) (sym same)
 
   module _ (c : Chassis) (r : Frame) (n : ℕ) (p : refuseAim f t m c ≡ 0) where
     pub update-speed : aimOf f t m c .reply .speed ≡ updateOf f (upOf m) (forwardOf m) c r n t .speed
