@@ -1,0 +1,4 @@
+pub mod Car
+pub mod Stream
+pub mod Oracle
+pub mod Opened
