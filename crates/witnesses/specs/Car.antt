@@ -14,6 +14,7 @@ use Rattle.vector.specs.declared.Rotation.{Rotation}
 use Rattle.body.specs.declared.Chassis.{Chassis}
 use Rattle.wheel.specs.declared.Settings.{Settings}
 use Rattle.wheel.specs.declared.Controls.{Controls}
+use Rattle.wheel.specs.declared.Wheel.{Wheel}
 use Rattle.wheel.specs.declared.RayAnswer.{RayAnswer}
 use Rattle.wheel.specs.declared.RayAnswer.the-variants.{Nothing, Hit}
 use Rattle.wheel.specs.Ray.{answerAt}
@@ -47,8 +48,11 @@ seven-eighths = fin false 7 (negsuc 2)
 abbrev pub vector : Float → Float → Float → Vector
 vector x y z = record { x = x; y = y; z = z }
 
+abbrev pub nowhere : Vector
+nowhere = vector zero zero zero
+
 abbrev pub straight : Rotation
-straight = record { b = vector zero zero zero; w = one }
+straight = record { b = nowhere; w = one }
 
 -- ---- the wheels: each hangs down by a spring of rest length 1
 abbrev pub hanging : Float → Float → Float → Float → Float → Settings
@@ -84,19 +88,22 @@ flattened = hanging two one zero sixteen one
 abbrev pub pressed : Float → Float → Controls
 pressed engine brake = record { engine = engine; brake = brake; steering = straight }
 
--- ---- the chassis, of mass 2, with this speed along the forward axis
-abbrev pub rolling : Float → Chassis
-rolling speed = record {
+-- ---- the chassis, of mass 2, with this velocity, and with this part of it along the forward axis
+abbrev pub moving : Vector → Chassis
+moving velocity = record {
   pose = record { translation = vector zero three-halves zero; rotation = straight };
   body = record {
     centre = vector zero one zero;
-    linvel = vector speed zero five;
-    angvel = vector zero zero zero;
+    linvel = velocity;
+    angvel = nowhere;
     invmass = half;
     inertia = record { xx = half; xy = zero; xz = zero; yy = quarter; yz = zero; zz = quarter };
   };
   effective = vector half half half;
 }
+
+abbrev pub rolling : Float → Chassis
+rolling speed = moving (vector speed zero five)
 
 -- ---- the ray answers, a half second: flat ground at this part of the ray under the rear wheel
 abbrev pub met : Float → RayAnswer
@@ -167,3 +174,17 @@ theDrive = driveAfter aimed road
 
 abbrev pub otherDrive : Step
 otherDrive = driveAfter otherAimed bumpy
+
+-- ---- what both have in common: the front wheel as the aim leaves it, and the chassis after the springs, which push it up by 8 × 1/2 each and turn it as far to one side as to the other
+abbrev pub frontAimed : Wheel
+frontAimed = record {
+  info = record { normal = nowhere; point = nowhere; length = zero; hard = vector two three-halves one };
+  place = record { centre = vector two three-halves one; direction = vector zero minus-one zero; axle = vector zero zero one };
+  settings = front;
+  controls = pressed twelve zero;
+  approach = record { velocity = zero; inverse = zero };
+  motion = record { rotation = zero; spin = zero; force = zero; forward = zero; side = zero; skid = zero };
+}
+
+abbrev pub sprungChassis : Chassis
+sprungChassis = moving (vector twelve eight five)
