@@ -1,2 +1,4 @@
 pub mod Told
 pub mod Drives
+pub mod Refused
+pub mod Applied

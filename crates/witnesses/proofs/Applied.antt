@@ -1,0 +1,83 @@
+-- Every theorem of demands/proofs/Demands.antt that has a hypothesis, applied to the two histories: those on refusals are applied in Refused.antt. The numbers that each speaks of stand beside it. Assumes nothing.
+use Prim.Native.Nat.{ℕ, _^_}
+use mathlib.Core.Bool.{true, false}
+use mathlib.Core.List.{_∷_}
+use mathlib.Core.Path.{_≡_, refl}
+use lib.Dec.{lit<}
+use lib.Ieee.{binary32}
+use Rattle.marked.specs.Numbers.{twelve}
+use Rattle.tyre.specs.Demand3.{precision, Grips, WithinBrake}
+use Rattle.table.specs.Layout as at
+use Rattle.refusals.specs.Shape.{countOf, upOf, forwardOf}
+use Rattle.refusals.specs.After.{after, marked}
+use Rattle.passes.specs.Passes.{stored}
+use Rattle.passes.specs.Step.{wholeStep}
+use Rattle.aim.specs.Aim.{aimOf, refuseAim, aimedBy, aimedTable}
+use Rattle.drive.specs.Drive.{driveOf, drivenBy}
+use Rattle.demands.specs.History.{State, SetUp, ReadWheel, accepted, runAll, drivenSince, countAfter, readAfter}
+use Rattle.demands.specs.Impulses.{forwardDemand, sideDemand, gripLimit, forwardImpulse, sideImpulse, brakeOf}
+use Rattle.demands.proofs.Demands as demands
+use Rattle.witnesses.specs.Car.{lent, rolling, road, fitted, aimed, calls, after-calls, theDrive, otherDrive}
+use Rattle.witnesses.specs.Opened.{opened}
+use Rattle.witnesses.proofs.Drives.{drive-accepted, stepped, front-grounded, front-limit, front-slides, rear-grounded, rear-grips, rear-unpowered, lifted-unpowered, other-accepted, alike}
+
+-- ---- demand 1: a history that is not driven, and one that is
+pub set-up-accepted : accepted binary32 (SetUp 1 0) lent ≡ true
+unfolding opened
+set-up-accepted = refl
+
+pub witness-not-driven-refused : readAfter binary32 (SetUp 1 0 ∷ aimed) lent 0 ≡ 5
+unfolding opened
+witness-not-driven-refused = demands.not-driven-refused binary32 lent 1 0 aimed set-up-accepted 0 (lit< tt) refl
+
+calls-drive : drivenSince binary32 (SetUp 1 0 ∷ calls) lent ≡ true
+unfolding opened
+calls-drive = refl
+
+pub witness-driven-not-refused : readAfter binary32 (SetUp 1 0 ∷ calls) lent 0 ≡ 5 → ⊥
+unfolding opened
+witness-driven-not-refused = demands.driven-not-refused binary32 lent 1 0 calls set-up-accepted 0 (lit< tt) calls-drive
+
+read-accepted : accepted binary32 (ReadWheel 0) (after-calls calls) ≡ true
+unfolding opened
+read-accepted = refl
+
+pub witness-read-only-when-driven : drivenSince binary32 (SetUp 1 0 ∷ calls) lent ≡ true
+witness-read-only-when-driven = demands.read-only-when-driven binary32 lent 1 0 calls set-up-accepted 0 read-accepted
+
+-- ---- demand 2
+abbrev car : State
+car = after-calls fitted
+
+aim-accepted : refuseAim binary32 (car .table) (car .whole) (rolling twelve) ≡ 0
+unfolding opened
+aim-accepted = refl
+
+pub witness-accepted-aim :
+    aimOf binary32 (car .table) (car .whole) (rolling twelve)
+    ≡ after (aimedBy binary32 (forwardOf (car .whole)) (rolling twelve) (countOf (car .whole)) (aimedTable binary32 (rolling twelve) (countOf (car .whole)) (car .table)))
+      (aimedTable binary32 (rolling twelve) (countOf (car .whole)) (car .table)) (marked (car .whole) at.AIMED)
+witness-accepted-aim = demands.accepted-aim binary32 (car .table) (car .whole) (rolling twelve) aim-accepted
+
+pub witness-accepted-drive :
+    driveOf binary32 (theDrive .table) (theDrive .whole) road 3
+    ≡ after (drivenBy (theDrive .table) 3 (wholeStep binary32 stored (upOf (theDrive .whole)) road 3 (theDrive .table)))
+      (wholeStep binary32 stored (upOf (theDrive .whole)) road 3 (theDrive .table) .table) (marked (theDrive .whole) at.DRIVEN)
+witness-accepted-drive = demands.accepted-drive binary32 (theDrive .table) (theDrive .whole) road 3 drive-accepted
+
+-- ---- demand 3
+pub witness-sliding-grips : Grips binary32 (precision binary32) (forwardImpulse binary32 theDrive 0) (sideImpulse binary32 theDrive 0) (gripLimit binary32 theDrive 0)
+witness-sliding-grips = demands.sliding-grips binary32 theDrive 0 front-grounded front-limit front-slides
+
+pub witness-not-sliding-is-demand :
+    (forwardImpulse binary32 theDrive 2 ≡ forwardDemand binary32 theDrive 2) × (sideImpulse binary32 theDrive 2 ≡ sideDemand binary32 theDrive 2)
+witness-not-sliding-is-demand = demands.not-sliding-is-demand binary32 theDrive 2 rear-grounded rear-grips
+
+pub witness-unpowered-within-brake : WithinBrake binary32 (brakeOf theDrive 2) (forwardImpulse binary32 theDrive 2)
+witness-unpowered-within-brake = demands.unpowered-within-brake binary32 theDrive 2 (rear-grounded .stepped) rear-unpowered
+
+pub witness-airborne-within-brake : WithinBrake binary32 (brakeOf theDrive 1) (forwardImpulse binary32 theDrive 1)
+witness-airborne-within-brake = demands.unpowered-within-brake binary32 theDrive 1 (stepped 1 (lit< tt)) lifted-unpowered
+
+pub witness-impulses-are-its-own : (forwardImpulse binary32 theDrive 0 ≡ forwardImpulse binary32 otherDrive 0) × (sideImpulse binary32 theDrive 0 ≡ sideImpulse binary32 otherDrive 0)
+witness-impulses-are-its-own = demands.impulses-are-its-own drive-accepted other-accepted (lit< tt) (lit< tt) alike
