@@ -5,8 +5,9 @@ use mathlib.Core.List.{_∷_}
 use mathlib.Core.Path.{_≡_, refl}
 use lib.Dec.{lit<}
 use lib.Ieee.{binary32}
-use Rattle.marked.specs.Numbers.{twelve}
-use Rattle.tyre.specs.Demand3.{precision, Grips, WithinBrake}
+use Rattle.real.specs.Number.{zero}
+use Rattle.marked.specs.Numbers.{three, four, twelve}
+use Rattle.tyre.specs.Demand3.{Grips, WithinBrake}
 use Rattle.table.specs.Layout as at
 use Rattle.refusals.specs.Shape.{countOf, upOf, forwardOf}
 use Rattle.refusals.specs.After.{after, marked}
@@ -15,9 +16,9 @@ use Rattle.passes.specs.Step.{wholeStep}
 use Rattle.aim.specs.Aim.{aimOf, refuseAim, aimedBy, aimedTable}
 use Rattle.drive.specs.Drive.{driveOf, drivenBy}
 use Rattle.demands.specs.History.{State, SetUp, ReadWheel, accepted, runAll, drivenSince, countAfter, readAfter}
-use Rattle.demands.specs.Impulses.{forwardDemand, sideDemand, gripLimit, forwardImpulse, sideImpulse, brakeOf}
+use Rattle.demands.specs.Impulses.{forwardDemand, sideDemand, forwardImpulse, sideImpulse}
 use Rattle.demands.proofs.Demands as demands
-use Rattle.witnesses.specs.Car.{lent, rolling, road, fitted, aimed, calls, after-calls, theDrive, otherDrive}
+use Rattle.witnesses.specs.Car.{minus-two, minus-four, five-halves, lent, rolling, road, fitted, aimed, calls, after-calls, theDrive, otherDrive}
 use Rattle.witnesses.specs.Opened.{opened}
 use Rattle.witnesses.proofs.Drives.{drive-accepted, stepped, front-grounded, front-limit, front-slides, rear-grounded, rear-grips, rear-unpowered, lifted-unpowered, other-accepted, alike}
 
@@ -66,17 +67,22 @@ pub witness-accepted-drive :
 witness-accepted-drive = demands.accepted-drive binary32 (theDrive .table) (theDrive .whole) road 3 drive-accepted
 
 -- ---- demand 3
-pub witness-sliding-grips : Grips binary32 (precision binary32) (forwardImpulse binary32 theDrive 0) (sideImpulse binary32 theDrive 0) (gripLimit binary32 theDrive 0)
+-- the front wheel, with its numbers: 3² / 4 + 2² is (5/2)²
+pub witness-sliding-grips : Grips binary32 (2 ^ 20) three minus-two five-halves
+unfolding opened
 witness-sliding-grips = demands.sliding-grips binary32 theDrive 0 front-grounded front-limit front-slides
 
+-- the rear wheel: −4 and −4; and on its brake of 4
 pub witness-not-sliding-is-demand :
     (forwardImpulse binary32 theDrive 2 ≡ forwardDemand binary32 theDrive 2) × (sideImpulse binary32 theDrive 2 ≡ sideDemand binary32 theDrive 2)
 witness-not-sliding-is-demand = demands.not-sliding-is-demand binary32 theDrive 2 rear-grounded rear-grips
 
-pub witness-unpowered-within-brake : WithinBrake binary32 (brakeOf theDrive 2) (forwardImpulse binary32 theDrive 2)
+pub witness-unpowered-within-brake : WithinBrake binary32 four minus-four
+unfolding opened
 witness-unpowered-within-brake = demands.unpowered-within-brake binary32 theDrive 2 (rear-grounded .stepped) rear-unpowered
 
-pub witness-airborne-within-brake : WithinBrake binary32 (brakeOf theDrive 1) (forwardImpulse binary32 theDrive 1)
+pub witness-airborne-within-brake : WithinBrake binary32 zero zero
+unfolding opened
 witness-airborne-within-brake = demands.unpowered-within-brake binary32 theDrive 1 (stepped 1 (lit< tt)) lifted-unpowered
 
 pub witness-impulses-are-its-own : (forwardImpulse binary32 theDrive 0 ≡ forwardImpulse binary32 otherDrive 0) × (sideImpulse binary32 theDrive 0 ≡ sideImpulse binary32 otherDrive 0)

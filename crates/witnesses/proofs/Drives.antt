@@ -7,14 +7,16 @@ use lib.Dec.{T, lit<}
 use lib.Ieee.{Float, Format, binary32, fits, le}
 use Rattle.lists.specs.All.{all}
 use Rattle.lists.proofs.Picks.{pick-true}
-use Rattle.marked.specs.Numbers.{twelve}
+use Rattle.real.specs.Number.{zero as none}
+use Rattle.marked.specs.Numbers.{three, six, twelve}
 use Rattle.body.specs.declared.Chassis.{Chassis}
 use Rattle.tyre.specs.Demand3.{leastLimit}
 use Rattle.table.specs.Rows.{chassisAt}
+use Rattle.ground.specs.Frame.{groundedAt}
 use Rattle.passes.specs.Passes.{stored}
 use Rattle.passes.specs.Step.{sprung}
-use Rattle.demands.specs.Impulses.{Step, Held, Accepted, Stepped, Grounded, storedWheel, gripLimit, slidesAt, poweredAt, Alike}
-use Rattle.witnesses.specs.Car.{rolling, theDrive, otherDrive, frontAimed, sprungChassis}
+use Rattle.demands.specs.Impulses.{Step, Held, Accepted, Stepped, Grounded, storedWheel, forwardDemand, sideDemand, gripLimit, forwardImpulse, sideImpulse, slidesAt, poweredAt, Alike}
+use Rattle.witnesses.specs.Car.{minus-two, minus-four, sixty-four, five-halves, rolling, theDrive, otherDrive, frontAimed, sprungChassis}
 use Rattle.witnesses.specs.Opened.{opened}
 
 -- ---- every number of a list is held, once a test has passed over it
@@ -23,6 +25,10 @@ unfolding all fits
 held-if [] h k = tt
 held-if (x ∷ l) h zero = subst (λ (b : Bool). T b) (sym (pick-true (fits binary32 x) (all (fits binary32) l) h .0)) tt
 held-if (x ∷ l) h (suc k) = held-if l (pick-true (fits binary32 x) (all (fits binary32) l) h .1) k
+
+-- a wheel's two demands, its grip limit and its two impulses
+abbrev tyre : Step → ℕ → List Float
+tyre d i = forwardDemand binary32 d i ∷ sideDemand binary32 d i ∷ gripLimit binary32 d i ∷ forwardImpulse binary32 d i ∷ sideImpulse binary32 d i ∷ []
 
 -- ---- the first drive
 pub drive-accepted : Accepted binary32 theDrive
@@ -44,7 +50,11 @@ pub rear-grounded : Grounded binary32 theDrive 2
 unfolding opened
 rear-grounded = record { stepped = stepped 2 (lit< tt); contact = refl }
 
--- its limit is 16 × 0.5 × 5/16, which is 5/2; its demands are 6 and −4
+-- the front wheel: its demands 12 × 1/2 and −4, its limit 16 × 1/2 × 5/16; 3² + 4² is 5², twice the limit, so its impulses are half the demands
+pub front-tyre : tyre theDrive 0 ≡ (six ∷ minus-four ∷ five-halves ∷ three ∷ minus-two ∷ [])
+unfolding opened
+front-tyre = refl
+
 pub front-limit : le leastLimit (gripLimit binary32 theDrive 0) ≡ true
 unfolding opened
 front-limit = refl
@@ -52,6 +62,11 @@ front-limit = refl
 pub front-slides : slidesAt binary32 theDrive 0 ≡ true
 unfolding opened
 front-slides = refl
+
+-- the rear wheel: its rolling demand −12 / 2 is cut to its brake, 4, and its limit is 16 × 1/2 × 8
+pub rear-tyre : tyre theDrive 2 ≡ (minus-four ∷ minus-four ∷ sixty-four ∷ minus-four ∷ minus-four ∷ [])
+unfolding opened
+rear-tyre = refl
 
 pub rear-grips : slidesAt binary32 theDrive 2 ≡ false
 unfolding opened
@@ -61,6 +76,15 @@ pub rear-unpowered : poweredAt theDrive 2 ≡ false
 unfolding opened
 rear-unpowered = refl
 
+-- the lifted wheel meets nothing
+pub lifted-airborne : groundedAt (theDrive .frame .answer) 1 ≡ false
+unfolding opened
+lifted-airborne = refl
+
+pub lifted-tyre : tyre theDrive 1 ≡ (none ∷ none ∷ none ∷ none ∷ none ∷ [])
+unfolding opened
+lifted-tyre = refl
+
 pub lifted-unpowered : poweredAt theDrive 1 ≡ false
 unfolding opened
 lifted-unpowered = refl
@@ -69,6 +93,11 @@ lifted-unpowered = refl
 pub other-accepted : Accepted binary32 otherDrive
 unfolding opened
 other-accepted = refl
+
+-- its rear wheel does what the first one's does not
+pub other-rear-slides : slidesAt binary32 otherDrive 2 ≡ true
+unfolding opened
+other-rear-slides = refl
 
 -- ---- the two are alike to the front wheel
 module _ (f : Format) (d : Step) where

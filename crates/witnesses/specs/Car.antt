@@ -30,14 +30,23 @@ minus-one = fin true 1 (pos 0)
 abbrev pub minus-two : Float
 minus-two = fin true 1 (pos 1)
 
+abbrev pub minus-four : Float
+minus-four = fin true 1 (pos 2)
+
 abbrev pub sixteen : Float
 sixteen = fin false 1 (pos 4)
 
 abbrev pub thirty-two : Float
 thirty-two = fin false 1 (pos 5)
 
+abbrev pub sixty-four : Float
+sixty-four = fin false 1 (pos 6)
+
 abbrev pub three-halves : Float
 three-halves = fin false 3 (negsuc 0)
+
+abbrev pub five-halves : Float
+five-halves = fin false 5 (negsuc 0)
 
 abbrev pub five-sixteenths : Float
 five-sixteenths = fin false 5 (negsuc 3)
