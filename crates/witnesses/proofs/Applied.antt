@@ -57,13 +57,13 @@ aim-accepted = refl
 pub witness-accepted-aim :
     aimOf binary32 (car .table) (car .whole) (rolling twelve)
     ≡ after (aimedBy binary32 (forwardOf (car .whole)) (rolling twelve) (countOf (car .whole)) (aimedTable binary32 (rolling twelve) (countOf (car .whole)) (car .table)))
-      (aimedTable binary32 (rolling twelve) (countOf (car .whole)) (car .table)) (marked (car .whole) at.AIMED)
+    (aimedTable binary32 (rolling twelve) (countOf (car .whole)) (car .table)) (marked (car .whole) at.AIMED)
 witness-accepted-aim = demands.accepted-aim binary32 (car .table) (car .whole) (rolling twelve) aim-accepted
 
 pub witness-accepted-drive :
     driveOf binary32 (theDrive .table) (theDrive .whole) road 3
     ≡ after (drivenBy (theDrive .table) 3 (wholeStep binary32 stored (upOf (theDrive .whole)) road 3 (theDrive .table)))
-      (wholeStep binary32 stored (upOf (theDrive .whole)) road 3 (theDrive .table) .table) (marked (theDrive .whole) at.DRIVEN)
+    (wholeStep binary32 stored (upOf (theDrive .whole)) road 3 (theDrive .table) .table) (marked (theDrive .whole) at.DRIVEN)
 witness-accepted-drive = demands.accepted-drive binary32 (theDrive .table) (theDrive .whole) road 3 drive-accepted
 
 -- ---- demand 3

@@ -1,7 +1,7 @@
 -- A small car and the calls that are made on it, as data, with numbers that can be worked out by hand: it rolls on flat ground at height 0 at (12, 0, 5), its wheels 1.5 above. Definitions only.
 -- The front wheel, with its engine on, slides; the lifted one meets nothing; the rear one is braked and grips. `road` and `calls` are the first history, `bumpy` and `otherCalls` the second, whose lifted and
 -- rear wheels have other settings and whose rear wheel meets the ground elsewhere: its spring pushes as hard, and it slides.
-use Prim.Native.Nat.{ℕ}
+use Prim.Native.Nat.{ℕ, _*_}
 use mathlib.Core.Bool.{true, false}
 use mathlib.Core.List.{List, [], _∷_, _++_}
 use lib.IntN.{pos, negsuc}
@@ -19,6 +19,7 @@ use Rattle.wheel.specs.declared.RayAnswer.{RayAnswer}
 use Rattle.wheel.specs.declared.RayAnswer.the-variants.{Nothing, Hit}
 use Rattle.wheel.specs.Ray.{answerAt}
 use Rattle.table.specs.Layout as at
+use Rattle.table.specs.Rows.{rowOf, chassisList}
 use Rattle.ground.specs.Frame.{Frame, frame}
 use Rattle.demands.specs.History.{State, state, Call, SetUp, AddWheel, SetControls, Aim, Drive, ReadWheel, runAll}
 use Rattle.demands.specs.Impulses.{Step}
@@ -136,20 +137,20 @@ fitted =
     AddWheel front
     ∷ AddWheel lifted
     ∷ AddWheel rear
-    ∷ AddWheel flattened -- 10
+    ∷ AddWheel flattened  -- 10
     ∷ SetControls 0 (pressed twelve zero)
-    ∷ SetControls 3 (pressed zero zero) -- 4
+    ∷ SetControls 3 (pressed zero zero)  -- 4
     ∷ SetControls 2 (pressed zero four)
     ∷ []
 
 abbrev pub aimed : List Call
 aimed =
     fitted
-    ++ (Drive road 3 -- 5
-    ∷ Aim (rolling (power 21)) -- 2
+    ++ (Drive road 3  -- 5
+    ∷ Aim (rolling (power 21))  -- 2
     ∷ Aim (rolling twelve)
-    ∷ ReadWheel 0 -- 5
-    ∷ Drive road 2 -- 6
+    ∷ ReadWheel 0  -- 5
+    ∷ Drive road 2  -- 6
     ∷ [])
 
 abbrev pub reads : List Call
@@ -171,29 +172,42 @@ otherAimed =
 abbrev pub otherCalls : List Call
 otherCalls = otherAimed ++ (Drive bumpy 3 ∷ reads)
 
--- ---- what is lent after the set-up and these calls, and the drive that follows
+-- ---- what is lent after the set-up and these calls
 abbrev pub after-calls : List Call → State
 after-calls l = runAll binary32 (SetUp 1 0 ∷ l) lent
 
-abbrev pub driveAfter : List Call → Frame → Step
-driveAfter l r = record { table = after-calls l .table; whole = after-calls l .whole; frame = r; n = 3 }
-
-abbrev pub theDrive : Step
-theDrive = driveAfter aimed road
-
-abbrev pub otherDrive : Step
-otherDrive = driveAfter otherAimed bumpy
-
--- ---- what both have in common: the front wheel as the aim leaves it, and the chassis after the springs, which push it up by 8 × 1/2 each and turn it as far to one side as to the other
-abbrev pub frontAimed : Wheel
-frontAimed = record {
-  info = record { normal = nowhere; point = nowhere; length = zero; hard = vector two three-halves one };
-  place = record { centre = vector two three-halves one; direction = vector zero minus-one zero; axle = vector zero zero one };
-  settings = front;
-  controls = pressed twelve zero;
+-- a wheel that an aim has placed, and the table that an aim leaves: the chassis, three wheels and room for thirteen
+abbrev pub placed : Settings → Float → Float → Controls → Wheel
+placed settings x z controls = record {
+  info = record { normal = nowhere; point = nowhere; length = zero; hard = vector x three-halves z };
+  place = record { centre = vector x three-halves z; direction = vector zero minus-one zero; axle = vector zero zero one };
+  settings = settings;
+  controls = controls;
   approach = record { velocity = zero; inverse = zero };
   motion = record { rotation = zero; spin = zero; force = zero; forward = zero; side = zero; skid = zero };
 }
 
+abbrev pub frontAimed : Wheel
+frontAimed = placed front two one (pressed twelve zero)
+
+abbrev pub aimedTable : Settings → Settings → List Float
+aimedTable second third =
+    chassisList (rolling twelve)
+    ++ rowOf frontAimed
+    ++ rowOf (placed second two minus-one (pressed zero zero))
+    ++ rowOf (placed third minus-two minus-one (pressed zero four))
+    ++ replicate (13 * at.ROW) zero
+
+-- ---- the drive that follows: three wheels, aimed, axes 1 and 0
+abbrev pub driveOver : Settings → Settings → Frame → Step
+driveOver second third r = record { table = aimedTable second third; whole = 3 ∷ at.AIMED ∷ 1 ∷ 0 ∷ []; frame = r; n = 3 }
+
+abbrev pub theDrive : Step
+theDrive = driveOver lifted rear road
+
+abbrev pub otherDrive : Step
+otherDrive = driveOver otherLifted otherRear bumpy
+
+-- the chassis after the springs of either, which push it up by 8 × 1/2 each and turn it as far to one side as to the other
 abbrev pub sprungChassis : Chassis
 sprungChassis = moving (vector twelve eight five)

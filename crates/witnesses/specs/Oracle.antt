@@ -1,25 +1,26 @@
--- The two histories as streams of words, a code to a line, and what the oracle prints for each code behind its number: the Rust source over the same arithmetic (oracle/). Definitions only.
--- tests/witnesses reads this file: it writes the words as the bytes of a stream, runs the oracle on them and compares its lines. Nothing here was taken from the proved code.
+-- The two histories as streams, and what the oracle prints for them: the Rust source over the same arithmetic (oracle/). Nothing here was taken from the proved code or the kernel. Definitions only.
+-- A row is a code and its fields, or the answer number and the results, in the order of docs/STREAM.md. tests/witnesses reads this file, runs the oracle on the streams and compares its lines.
 use Prim.Native.Nat.{ℕ}
 use mathlib.Core.List.{List, [], _∷_}
 
+-- ---- the calls
 abbrev pub asked : List (List ℕ)
 asked =
     (1 ∷ 0x40000000 ∷ 0 ∷ 0x3f800000 ∷ 0 ∷ 0xbf800000 ∷ 0 ∷ 0 ∷ 0 ∷ 0x3f800000 ∷ 0x3f800000 ∷ 0x3f800000 ∷ 0x41800000 ∷ 0x40000000 ∷ 0x40000000 ∷ 0x3f000000 ∷ 0x40800000 ∷ 0x3ea00000 ∷
-        0x44800000 ∷ [])
+    0x44800000 ∷ [])
     ∷ (1 ∷ 0x40000000 ∷ 0 ∷ 0xbf800000 ∷ 0 ∷ 0xbf800000 ∷ 0 ∷ 0 ∷ 0 ∷ 0x3f800000 ∷ 0x3f800000 ∷ 0x3f800000 ∷ 0x41800000 ∷ 0x40000000 ∷ 0x40000000 ∷ 0x3f000000 ∷ 0x40800000 ∷ 0x3f800000 ∷
-        0x44800000 ∷ [])
+    0x44800000 ∷ [])
     ∷ (1 ∷ 0xc0000000 ∷ 0 ∷ 0xbf800000 ∷ 0 ∷ 0xbf800000 ∷ 0 ∷ 0 ∷ 0 ∷ 0x3f800000 ∷ 0x3f800000 ∷ 0x3f800000 ∷ 0x41800000 ∷ 0x40000000 ∷ 0x40000000 ∷ 0x3f000000 ∷ 0x40800000 ∷ 0x41000000 ∷
-        0x44800000 ∷ [])
+    0x44800000 ∷ [])
     ∷ (1 ∷ 0x40000000 ∷ 0 ∷ 0x3f800000 ∷ 0 ∷ 0xbf800000 ∷ 0 ∷ 0 ∷ 0 ∷ 0x3f800000 ∷ 0x3f800000 ∷ 0 ∷ 0x41800000 ∷ 0x40000000 ∷ 0x40000000 ∷ 0x3f000000 ∷ 0x40800000 ∷ 0x3f800000 ∷ 0x44800000 ∷ [])
     ∷ (2 ∷ 0 ∷ 0x41400000 ∷ 0 ∷ 0 ∷ 0 ∷ 0 ∷ 0x3f800000 ∷ [])
     ∷ (2 ∷ 3 ∷ 0 ∷ 0 ∷ 0 ∷ 0 ∷ 0 ∷ 0x3f800000 ∷ [])
     ∷ (2 ∷ 2 ∷ 0 ∷ 0x40800000 ∷ 0 ∷ 0 ∷ 0 ∷ 0x3f800000 ∷ [])
     ∷ (4 ∷ 0x3f000000 ∷ 0 ∷ 3 ∷ 1 ∷ 0x3f400000 ∷ 0 ∷ 0x3f800000 ∷ 0 ∷ 0 ∷ 0 ∷ 1 ∷ 0x3f400000 ∷ 0 ∷ 0x3f800000 ∷ 0 ∷ 0 ∷ [])
     ∷ (3 ∷ 0 ∷ 0x3fc00000 ∷ 0 ∷ 0 ∷ 0 ∷ 0 ∷ 0x3f800000 ∷ 0 ∷ 0x3f800000 ∷ 0 ∷ 0x4a000000 ∷ 0 ∷ 0x40a00000 ∷ 0 ∷ 0 ∷ 0 ∷ 0x3f000000 ∷ 0x3f000000 ∷ 0x3f000000 ∷ 0x3f000000 ∷ 0x3f000000 ∷ 0 ∷
-        0 ∷ 0x3e800000 ∷ 0 ∷ 0x3e800000 ∷ [])
+    0 ∷ 0x3e800000 ∷ 0 ∷ 0x3e800000 ∷ [])
     ∷ (3 ∷ 0 ∷ 0x3fc00000 ∷ 0 ∷ 0 ∷ 0 ∷ 0 ∷ 0x3f800000 ∷ 0 ∷ 0x3f800000 ∷ 0 ∷ 0x41400000 ∷ 0 ∷ 0x40a00000 ∷ 0 ∷ 0 ∷ 0 ∷ 0x3f000000 ∷ 0x3f000000 ∷ 0x3f000000 ∷ 0x3f000000 ∷ 0x3f000000 ∷ 0 ∷
-        0 ∷ 0x3e800000 ∷ 0 ∷ 0x3e800000 ∷ [])
+    0 ∷ 0x3e800000 ∷ 0 ∷ 0x3e800000 ∷ [])
     ∷ (5 ∷ 0 ∷ [])
     ∷ (4 ∷ 0x3f000000 ∷ 0 ∷ 2 ∷ 1 ∷ 0x3f400000 ∷ 0 ∷ 0x3f800000 ∷ 0 ∷ 0 ∷ 0 ∷ [])
     ∷ (4 ∷ 0x3f000000 ∷ 0 ∷ 3 ∷ 1 ∷ 0x3f400000 ∷ 0 ∷ 0x3f800000 ∷ 0 ∷ 0 ∷ 0 ∷ 1 ∷ 0x3f400000 ∷ 0 ∷ 0x3f800000 ∷ 0 ∷ 0 ∷ [])
@@ -31,21 +32,23 @@ asked =
 abbrev pub otherAsked : List (List ℕ)
 otherAsked =
     (1 ∷ 0x40000000 ∷ 0 ∷ 0x3f800000 ∷ 0 ∷ 0xbf800000 ∷ 0 ∷ 0 ∷ 0 ∷ 0x3f800000 ∷ 0x3f800000 ∷ 0x3f800000 ∷ 0x41800000 ∷ 0x40000000 ∷ 0x40000000 ∷ 0x3f000000 ∷ 0x40800000 ∷ 0x3ea00000 ∷
-        0x44800000 ∷ [])
+    0x44800000 ∷ [])
     ∷ (1 ∷ 0x40000000 ∷ 0 ∷ 0xbf800000 ∷ 0 ∷ 0xbf800000 ∷ 0 ∷ 0 ∷ 0 ∷ 0x3f800000 ∷ 0x3f800000 ∷ 0x3f000000 ∷ 0x41000000 ∷ 0x40000000 ∷ 0x40000000 ∷ 0x3f000000 ∷ 0x40800000 ∷ 0x40000000 ∷
-        0x44800000 ∷ [])
+    0x44800000 ∷ [])
     ∷ (1 ∷ 0xc0000000 ∷ 0 ∷ 0xbf800000 ∷ 0 ∷ 0xbf800000 ∷ 0 ∷ 0 ∷ 0 ∷ 0x3f800000 ∷ 0x3f800000 ∷ 0x3f800000 ∷ 0x42000000 ∷ 0x40000000 ∷ 0x40000000 ∷ 0x3f000000 ∷ 0x40800000 ∷ 0x3e800000 ∷
-        0x44800000 ∷ [])
+    0x44800000 ∷ [])
     ∷ (2 ∷ 0 ∷ 0x41400000 ∷ 0 ∷ 0 ∷ 0 ∷ 0 ∷ 0x3f800000 ∷ [])
     ∷ (2 ∷ 2 ∷ 0 ∷ 0x40800000 ∷ 0 ∷ 0 ∷ 0 ∷ 0x3f800000 ∷ [])
     ∷ (3 ∷ 0 ∷ 0x3fc00000 ∷ 0 ∷ 0 ∷ 0 ∷ 0 ∷ 0x3f800000 ∷ 0 ∷ 0x3f800000 ∷ 0 ∷ 0x41400000 ∷ 0 ∷ 0x40a00000 ∷ 0 ∷ 0 ∷ 0 ∷ 0x3f000000 ∷ 0x3f000000 ∷ 0x3f000000 ∷ 0x3f000000 ∷ 0x3f000000 ∷ 0 ∷
-        0 ∷ 0x3e800000 ∷ 0 ∷ 0x3e800000 ∷ [])
+    0 ∷ 0x3e800000 ∷ 0 ∷ 0x3e800000 ∷ [])
     ∷ (4 ∷ 0x3f000000 ∷ 0 ∷ 3 ∷ 1 ∷ 0x3f400000 ∷ 0 ∷ 0x3f800000 ∷ 0 ∷ 0 ∷ 0 ∷ 1 ∷ 0x3f600000 ∷ 0 ∷ 0x3f800000 ∷ 0 ∷ 0 ∷ [])
     ∷ (5 ∷ 0 ∷ [])
     ∷ (5 ∷ 1 ∷ [])
     ∷ (5 ∷ 2 ∷ [])
     ∷ []
 
+-- ---- the answers. In words: the speed is 13; the velocities become (11.5, 8, 2) and about (0.3, 0.75, −0.25), and the engine wakes the chassis.
+-- The front wheel: length 1/2, force 16, impulses 3 and −2, skid 1/2, rotation 6.1875. The lifted one: length 1, nothing else, skid 1. The rear one: length 1/2, force 16, impulses −4 and −4, skid 1, rotation 5.4375.
 abbrev pub told : List (List ℕ)
 told =
     (0 ∷ [])
@@ -58,7 +61,7 @@ told =
     ∷ (5 ∷ [])
     ∷ (2 ∷ [])
     ∷ (0 ∷ 0x41500000 ∷ 0x40000000 ∷ 0x3fc00000 ∷ 0x3f800000 ∷ 0 ∷ 0xc0000000 ∷ 0 ∷ 0x40000000 ∷ 0x3fc00000 ∷ 0xbf800000 ∷ 0 ∷ 0xc0000000 ∷ 0 ∷ 0xc0000000 ∷ 0x3fc00000 ∷ 0xbf800000 ∷ 0 ∷
-        0xc0000000 ∷ 0 ∷ [])
+    0xc0000000 ∷ 0 ∷ [])
     ∷ (5 ∷ [])
     ∷ (6 ∷ [])
     ∷ (0 ∷ 0x41380000 ∷ 0x41000000 ∷ 0x40000000 ∷ 0x3e99999c ∷ 0x3f400000 ∷ 0xbe800000 ∷ 1 ∷ [])
@@ -67,6 +70,7 @@ told =
     ∷ (0 ∷ 0xc0000000 ∷ 0x3fc00000 ∷ 0xbf800000 ∷ 0 ∷ 0xbf800000 ∷ 0 ∷ 0 ∷ 0 ∷ 0x3f800000 ∷ 0x3f000000 ∷ 0x41800000 ∷ 0xc0800000 ∷ 0xc0800000 ∷ 0x3f800000 ∷ 0x40ae0000 ∷ [])
     ∷ []
 
+-- The front wheel has the same impulses and skid. The rear one: length 3/4, force 16, impulses about −1.98 and −1.74, skid about 0.495.
 abbrev pub otherTold : List (List ℕ)
 otherTold =
     (0 ∷ [])
@@ -75,7 +79,7 @@ otherTold =
     ∷ (0 ∷ [])
     ∷ (0 ∷ [])
     ∷ (0 ∷ 0x41500000 ∷ 0x40000000 ∷ 0x3fc00000 ∷ 0x3f800000 ∷ 0 ∷ 0xc0000000 ∷ 0 ∷ 0x40000000 ∷ 0x3fc00000 ∷ 0xbf800000 ∷ 0 ∷ 0xbfc00000 ∷ 0 ∷ 0xc0000000 ∷ 0x3fc00000 ∷ 0xbf800000 ∷ 0 ∷
-        0xc0000000 ∷ 0 ∷ [])
+    0xc0000000 ∷ 0 ∷ [])
     ∷ (0 ∷ 0x4148259e ∷ 0x41000000 ∷ 0x404867de ∷ 0x3e5596ac ∷ 0x3fb03942 ∷ 0x3e05e0c0 ∷ 1 ∷ [])
     ∷ (0 ∷ 0x40000000 ∷ 0x3fc00000 ∷ 0x3f800000 ∷ 0 ∷ 0xbf800000 ∷ 0 ∷ 0 ∷ 0 ∷ 0x3f800000 ∷ 0x3f000000 ∷ 0x41800000 ∷ 0x40400000 ∷ 0xc0000000 ∷ 0x3f000000 ∷ 0x40dd2105 ∷ [])
     ∷ (0 ∷ 0x40000000 ∷ 0x3fc00000 ∷ 0xbf800000 ∷ 0 ∷ 0xbf800000 ∷ 0 ∷ 0 ∷ 0 ∷ 0x3f800000 ∷ 0x3f800000 ∷ 0 ∷ 0 ∷ 0 ∷ 0x3f800000 ∷ 0 ∷ [])
