@@ -18,11 +18,11 @@ use Rattle.drive.specs.Drive.{driveOf, drivenBy}
 use Rattle.demands.specs.History.{State, SetUp, ReadWheel, accepted, runAll, drivenSince, countAfter, readAfter}
 use Rattle.demands.specs.Impulses.{forwardDemand, sideDemand, forwardImpulse, sideImpulse}
 use Rattle.demands.proofs.Demands as demands
-use Rattle.witnesses.specs.Car.{minus-two, minus-four, five-halves, lent, rolling, road, fitted, aimed, calls, after-calls, theDrive, otherDrive}
+use Rattle.witnesses.specs.Car.{minus-two, minus-four, five-halves, lent, rolling, road, fitted, aimed, otherDriven, otherCalls, after-calls, theDrive, otherDrive}
 use Rattle.witnesses.specs.Opened.{opened}
 use Rattle.witnesses.proofs.Drives.{drive-accepted, stepped, front-grounded, front-limit, front-slides, rear-grounded, rear-grips, rear-unpowered, lifted-unpowered, other-accepted, alike}
 
--- ---- demand 1: a history that is not driven, and one that is
+-- ---- demand 1: a history that is not driven, one that was driven and is aimed again, and one that is driven
 pub set-up-accepted : accepted binary32 (SetUp 1 0) lent ≡ true
 unfolding opened
 set-up-accepted = refl
@@ -31,20 +31,24 @@ pub witness-not-driven-refused : readAfter binary32 (SetUp 1 0 ∷ aimed) lent 0
 unfolding opened
 witness-not-driven-refused = demands.not-driven-refused binary32 lent 1 0 aimed set-up-accepted 0 (lit< tt) refl
 
-calls-drive : drivenSince binary32 (SetUp 1 0 ∷ calls) lent ≡ true
+pub witness-aimed-again-refused : readAfter binary32 (SetUp 1 0 ∷ otherCalls) lent 0 ≡ 5
 unfolding opened
-calls-drive = refl
+witness-aimed-again-refused = demands.not-driven-refused binary32 lent 1 0 otherCalls set-up-accepted 0 (lit< tt) refl
 
-pub witness-driven-not-refused : readAfter binary32 (SetUp 1 0 ∷ calls) lent 0 ≡ 5 → ⊥
+driven-since : drivenSince binary32 (SetUp 1 0 ∷ otherDriven) lent ≡ true
 unfolding opened
-witness-driven-not-refused = demands.driven-not-refused binary32 lent 1 0 calls set-up-accepted 0 (lit< tt) calls-drive
+driven-since = refl
 
-read-accepted : accepted binary32 (ReadWheel 0) (after-calls calls) ≡ true
+pub witness-driven-not-refused : readAfter binary32 (SetUp 1 0 ∷ otherDriven) lent 0 ≡ 5 → ⊥
+unfolding opened
+witness-driven-not-refused = demands.driven-not-refused binary32 lent 1 0 otherDriven set-up-accepted 0 (lit< tt) driven-since
+
+read-accepted : accepted binary32 (ReadWheel 0) (after-calls otherDriven) ≡ true
 unfolding opened
 read-accepted = refl
 
-pub witness-read-only-when-driven : drivenSince binary32 (SetUp 1 0 ∷ calls) lent ≡ true
-witness-read-only-when-driven = demands.read-only-when-driven binary32 lent 1 0 calls set-up-accepted 0 read-accepted
+pub witness-read-only-when-driven : drivenSince binary32 (SetUp 1 0 ∷ otherDriven) lent ≡ true
+witness-read-only-when-driven = demands.read-only-when-driven binary32 lent 1 0 otherDriven set-up-accepted 0 read-accepted
 
 -- ---- demand 2
 abbrev car : State

@@ -169,8 +169,16 @@ otherAimed =
     ∷ Aim (rolling twelve)
     ∷ []
 
+abbrev pub otherDriven : List Call
+otherDriven = otherAimed ++ (Drive bumpy 3 ∷ reads) ++ (SetControls 1 (pressed zero zero) ∷ ReadWheel 0 ∷ [])
+
+-- and aimed again
 abbrev pub otherCalls : List Call
-otherCalls = otherAimed ++ (Drive bumpy 3 ∷ reads)
+otherCalls =
+    otherDriven
+    ++ (Aim (rolling twelve)
+    ∷ ReadWheel 0  -- 5
+    ∷ [])
 
 -- ---- what is lent after the set-up and these calls
 abbrev pub after-calls : List Call → State

@@ -45,10 +45,16 @@ otherAsked =
     ∷ (5 ∷ 0 ∷ [])
     ∷ (5 ∷ 1 ∷ [])
     ∷ (5 ∷ 2 ∷ [])
+    ∷ (2 ∷ 1 ∷ 0 ∷ 0 ∷ 0 ∷ 0 ∷ 0 ∷ 0x3f800000 ∷ [])
+    ∷ (5 ∷ 0 ∷ [])
+    ∷ (3 ∷ 0 ∷ 0x3fc00000 ∷ 0 ∷ 0 ∷ 0 ∷ 0 ∷ 0x3f800000 ∷ 0 ∷ 0x3f800000 ∷ 0 ∷ 0x41400000 ∷ 0 ∷ 0x40a00000 ∷ 0 ∷ 0 ∷ 0 ∷ 0x3f000000 ∷ 0x3f000000 ∷ 0x3f000000 ∷ 0x3f000000 ∷ 0x3f000000 ∷ 0 ∷
+    0 ∷ 0x3e800000 ∷ 0 ∷ 0x3e800000 ∷ [])
+    ∷ (5 ∷ 0 ∷ [])
     ∷ []
 
 -- ---- the answers. In words: the speed is 13; the velocities become (11.5, 8, 2) and about (0.3, 0.75, −0.25), and the engine wakes the chassis.
--- The front wheel: length 1/2, force 16, impulses 3 and −2, skid 1/2, rotation 6.1875. The lifted one: length 1, nothing else, skid 1. The rear one: length 1/2, force 16, impulses −4 and −4, skid 1, rotation 5.4375.
+-- The front wheel: length 1/2, force 16, impulses 3 and −2, skid 1/2, rotation 6.1875. The lifted one: length 1, nothing else, skid 1.
+-- The rear one: length 1/2, force 16, impulses −4 and −4, skid 1, rotation 5.4375.
 abbrev pub told : List (List ℕ)
 told =
     (0 ∷ [])
@@ -84,4 +90,9 @@ otherTold =
     ∷ (0 ∷ 0x40000000 ∷ 0x3fc00000 ∷ 0x3f800000 ∷ 0 ∷ 0xbf800000 ∷ 0 ∷ 0 ∷ 0 ∷ 0x3f800000 ∷ 0x3f000000 ∷ 0x41800000 ∷ 0x40400000 ∷ 0xc0000000 ∷ 0x3f000000 ∷ 0x40dd2105 ∷ [])
     ∷ (0 ∷ 0x40000000 ∷ 0x3fc00000 ∷ 0xbf800000 ∷ 0 ∷ 0xbf800000 ∷ 0 ∷ 0 ∷ 0 ∷ 0x3f800000 ∷ 0x3f800000 ∷ 0 ∷ 0 ∷ 0 ∷ 0x3f800000 ∷ 0 ∷ [])
     ∷ (0 ∷ 0xc0000000 ∷ 0x3fc00000 ∷ 0xbf800000 ∷ 0 ∷ 0xbf800000 ∷ 0 ∷ 0 ∷ 0 ∷ 0x3f800000 ∷ 0x3f400000 ∷ 0x41800000 ∷ 0xbffda61a ∷ 0xbfde6087 ∷ 0x3efda61a ∷ 0x40b112b4 ∷ [])
+    ∷ (0 ∷ [])
+    ∷ (0 ∷ 0x40000000 ∷ 0x3fc00000 ∷ 0x3f800000 ∷ 0 ∷ 0xbf800000 ∷ 0 ∷ 0 ∷ 0 ∷ 0x3f800000 ∷ 0x3f000000 ∷ 0x41800000 ∷ 0x40400000 ∷ 0xc0000000 ∷ 0x3f000000 ∷ 0x40dd2105 ∷ [])
+    ∷ (0 ∷ 0x41500000 ∷ 0x40000000 ∷ 0x3fc00000 ∷ 0x3f800000 ∷ 0 ∷ 0xc0000000 ∷ 0 ∷ 0x40000000 ∷ 0x3fc00000 ∷ 0xbf800000 ∷ 0 ∷ 0xbfc00000 ∷ 0 ∷ 0xc0000000 ∷ 0x3fc00000 ∷ 0xbf800000 ∷ 0 ∷
+    0xc0000000 ∷ 0 ∷ [])
+    ∷ (5 ∷ [])
     ∷ []
