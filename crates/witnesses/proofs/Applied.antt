@@ -1,6 +1,6 @@
 -- Every theorem of demands/proofs/Demands.antt that has a hypothesis, applied to the two histories: those on refusals are applied in Refused.antt. The numbers that each speaks of stand beside it. Assumes nothing.
-use Prim.Native.Nat.{ℕ, _^_}
-use mathlib.Core.Bool.{true, false}
+use Prim.Native.Nat.{_^_}
+use mathlib.Core.Bool.{true}
 use mathlib.Core.List.{_∷_}
 use mathlib.Core.Path.{_≡_, refl}
 use lib.Dec.{lit<}
@@ -15,10 +15,11 @@ use Rattle.passes.specs.Passes.{stored}
 use Rattle.passes.specs.Step.{wholeStep}
 use Rattle.aim.specs.Aim.{aimOf, refuseAim, aimedBy, aimedTable}
 use Rattle.drive.specs.Drive.{driveOf, drivenBy}
-use Rattle.demands.specs.History.{State, SetUp, ReadWheel, accepted, runAll, drivenSince, countAfter, readAfter}
+use Rattle.demands.specs.History.{State, SetUp, ReadWheel, accepted, drivenSince, readAfter}
 use Rattle.demands.specs.Impulses.{forwardDemand, sideDemand, forwardImpulse, sideImpulse}
 use Rattle.demands.proofs.Demands as demands
-use Rattle.witnesses.specs.Car.{minus-two, minus-four, five-halves, lent, rolling, road, fitted, aimed, otherDriven, otherCalls, after-calls, theDrive, otherDrive}
+use Rattle.witnesses.specs.Car.{minus-two, minus-four, five-halves, rolling, road}
+use Rattle.witnesses.specs.Calls.{lent, fitted, aimed, otherDriven, otherCalls, leftBy, theDrive, otherDrive}
 use Rattle.witnesses.specs.Opened.{opened}
 use Rattle.witnesses.proofs.Drives.{drive-accepted, stepped, front-grounded, front-limit, front-slides, rear-grounded, rear-grips, rear-unpowered, lifted-unpowered, other-accepted, alike}
 
@@ -43,7 +44,7 @@ pub witness-driven-not-refused : readAfter binary32 (SetUp 1 0 ∷ otherDriven) 
 unfolding opened
 witness-driven-not-refused = demands.driven-not-refused binary32 lent 1 0 otherDriven set-up-accepted 0 (lit< tt) driven-since
 
-read-accepted : accepted binary32 (ReadWheel 0) (after-calls otherDriven) ≡ true
+read-accepted : accepted binary32 (ReadWheel 0) (leftBy otherDriven) ≡ true
 unfolding opened
 read-accepted = refl
 
@@ -52,7 +53,7 @@ witness-read-only-when-driven = demands.read-only-when-driven binary32 lent 1 0 
 
 -- ---- demand 2
 abbrev car : State
-car = after-calls fitted
+car = leftBy fitted
 
 aim-accepted : refuseAim binary32 (car .table) (car .whole) (rolling twelve) ≡ 0
 unfolding opened

@@ -16,7 +16,8 @@ use Rattle.passes.specs.Passes.{stored}
 use Rattle.passes.specs.Step.{sprung}
 use Rattle.demands.specs.History.{state}
 use Rattle.demands.specs.Impulses.{Step, Held, Accepted, Stepped, Grounded, forwardDemand, sideDemand, gripLimit, forwardImpulse, sideImpulse, slidesAt, poweredAt, Alike}
-use Rattle.witnesses.specs.Car.{minus-two, minus-four, sixty-four, five-halves, aimed, otherAimed, after-calls, theDrive, otherDrive, sprungChassis}
+use Rattle.witnesses.specs.Car.{minus-two, minus-four, sixty-four, five-halves}
+use Rattle.witnesses.specs.Calls.{aimed, otherAimed, leftBy, theDrive, otherDrive, sprungChassis}
 use Rattle.witnesses.specs.Opened.{opened}
 
 -- ---- every number of a list is held, once a test has passed over it
@@ -31,11 +32,11 @@ abbrev tyre : Step → ℕ → List Float
 tyre d i = forwardDemand binary32 d i ∷ sideDemand binary32 d i ∷ gripLimit binary32 d i ∷ forwardImpulse binary32 d i ∷ sideImpulse binary32 d i ∷ []
 
 -- ---- what the calls leave is what each drive is lent
-pub the-calls-leave : after-calls aimed ≡ state (theDrive .table) (theDrive .whole)
+pub the-calls-leave : leftBy aimed ≡ state (theDrive .table) (theDrive .whole)
 unfolding opened
 the-calls-leave = refl
 
-pub other-calls-leave : after-calls otherAimed ≡ state (otherDrive .table) (otherDrive .whole)
+pub other-calls-leave : leftBy otherAimed ≡ state (otherDrive .table) (otherDrive .whole)
 unfolding opened
 other-calls-leave = refl
 

@@ -2,4 +2,3 @@ pub mod Told
 pub mod Drives
 pub mod Refused
 pub mod Applied
-pub mod FinerBound

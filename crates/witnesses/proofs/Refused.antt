@@ -15,15 +15,16 @@ use Rattle.aim.specs.Aim.{aimOf, refuseAim, notAimed}
 use Rattle.drive.specs.Drive.{driveOf, refuseDrive, notDriven}
 use Rattle.demands.specs.History.{Drive, answered}
 use Rattle.demands.proofs.Demands as demands
-use Rattle.witnesses.specs.Car.{flattened, pressed, rolling, road, fitted, after-calls}
+use Rattle.witnesses.specs.Car.{flattened, pressed, rolling, road}
+use Rattle.witnesses.specs.Calls.{fitted, leftBy}
 use Rattle.witnesses.specs.Opened.{opened}
 
 -- the car with its wheels on, not aimed
 abbrev t : List Float
-t = after-calls fitted .table
+t = leftBy fitted .table
 
 abbrev m : List ℕ
-m = after-calls fitted .whole
+m = leftBy fitted .whole
 
 not-zero : {n : ℕ} (k : ℕ) → n ≡ k → eqb k 0 ≡ eqb 1 0 → n ≡ 0 → ⊥
 not-zero {n} k e h = eqb-false n 0 (ap (λ (x : ℕ). eqb x 0) e ∙ h)
@@ -98,5 +99,5 @@ witness-read-refused = demands.read-refused binary32 t m 0 (not-zero 5 read-refu
 pub witness-refusal-changes-nothing : (done : After ℕ) → settled 5 (λ n. n) done t m ≡ after 5 t m
 witness-refusal-changes-nothing done = demands.refusal-changes-nothing binary32 t m 5 (λ n. n) done (not-zero {n = 5} 5 refl refl)
 
-pub witness-answer-in-table : answered binary32 (Drive road 3) (after-calls fitted) .reply ≤ 10
-witness-answer-in-table = demands.answer-in-table binary32 (Drive road 3) (after-calls fitted)
+pub witness-answer-in-table : answered binary32 (Drive road 3) (leftBy fitted) .reply ≤ 10
+witness-answer-in-table = demands.answer-in-table binary32 (Drive road 3) (leftBy fitted)

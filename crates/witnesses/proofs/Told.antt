@@ -2,7 +2,7 @@
 use mathlib.Core.Path.{_≡_, refl}
 use lib.Ieee.{binary32}
 use Rattle.demands.specs.History.{SetUp, run}
-use Rattle.witnesses.specs.Car.{lent, calls, otherCalls}
+use Rattle.witnesses.specs.Calls.{lent, calls, otherCalls}
 use Rattle.witnesses.specs.Stream.{streamWords, answersTo}
 use Rattle.witnesses.specs.Oracle.{asked, told, otherAsked, otherTold}
 use Rattle.witnesses.specs.Opened.{opened}

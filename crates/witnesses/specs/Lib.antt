@@ -1,4 +1,5 @@
 pub mod Car
+pub mod Calls
 pub mod Stream
 pub mod Oracle
 pub mod Opened
