@@ -1,4 +1,4 @@
--- Every theorem of demands/proofs/Demands.antt that has a hypothesis, applied to the two histories: those on refusals are applied in Refused.antt. The numbers that each speaks of stand beside it. Assumes nothing.
+-- The theorems of demands/proofs/Demands.antt on histories, accepted calls and wheels, each applied to what the kernel has worked out; those on refusals are applied in Refused.antt. Assumes nothing.
 use Prim.Native.Nat.{_^_}
 use mathlib.Core.Bool.{true}
 use mathlib.Core.List.{_∷_}
