@@ -9,14 +9,17 @@ use Rattle.real.specs.Number.{zero}
 use Rattle.marked.specs.Numbers.{three, four, twelve}
 use Rattle.tyre.specs.Demand3.{Grips, WithinBrake}
 use Rattle.table.specs.Layout as at
+use Rattle.table.specs.Rows.{chassisAt}
 use Rattle.refusals.specs.Shape.{countOf, upOf, forwardOf}
 use Rattle.refusals.specs.After.{after, marked}
 use Rattle.passes.specs.Passes.{stored}
 use Rattle.passes.specs.Step.{wholeStep}
 use Rattle.aim.specs.Aim.{aimOf, refuseAim, aimedBy, aimedTable}
 use Rattle.drive.specs.Drive.{driveOf, drivenBy}
-use Rattle.demands.specs.History.{State, SetUp, ReadWheel, accepted, drivenSince, readAfter}
-use Rattle.demands.specs.Impulses.{forwardDemand, sideDemand, forwardImpulse, sideImpulse}
+use Rattle.demands.specs.History.{State, SetUp, Drive, ReadWheel, accepted, run, drivenSince, readAfter}
+use Rattle.demands.specs.Held.{Held, handsHeld, HandsHeld}
+use Rattle.demands.specs.Update.{Placed, updateOf, updated}
+use Rattle.demands.specs.Impulses.{Accepted, Stepped, stepAfter, forwardDemand, sideDemand, forwardImpulse, sideImpulse, skidAt}
 use Rattle.demands.proofs.Demands as demands
 use Rattle.witnesses.specs.Car.{minus-two, minus-four, five-halves, rolling, road}
 use Rattle.witnesses.specs.Calls.{lent, fitted, aimed, otherDriven, otherCalls, leftBy, theDrive, otherDrive}
@@ -71,6 +74,27 @@ pub witness-accepted-drive :
     (wholeStep binary32 stored (upOf (theDrive .whole)) road 3 (theDrive .table) .table) (marked (theDrive .whole) at.DRIVEN)
 witness-accepted-drive = demands.accepted-drive binary32 (theDrive .table) (theDrive .whole) road 3 drive-accepted
 
+-- the aim and the drive after it, as one update of the car as it was before them
+pub witness-aim-then-drive :
+    (aimOf binary32 (car .table) (car .whole) (rolling twelve) .reply .speed ≡ updateOf binary32 1 0 (rolling twelve) road 3 (car .table) .speed)
+    × (driveOf binary32 (aimOf binary32 (car .table) (car .whole) (rolling twelve) .table) (aimOf binary32 (car .table) (car .whole) (rolling twelve) .whole) road 3
+    ≡ updated binary32 (car .whole) (rolling twelve) road 3 (car .table))
+unfolding opened
+witness-aim-then-drive = demands.aim-then-drive binary32 (car .table) (car .whole) (rolling twelve) road 3 aim-accepted refl
+
+-- the front wheel of the aimed car is placed under the kept chassis, and the drive that follows ends one update
+pub witness-aimed-transforms : Placed binary32 (leftBy aimed .table) 0
+unfolding opened
+witness-aimed-transforms = demands.aimed-transforms binary32 lent 1 0 aimed set-up-accepted refl 0 (lit< tt)
+
+then-driven : accepted binary32 (Drive road 3) (leftBy aimed) ≡ true
+unfolding opened
+then-driven = refl
+
+pub witness-drive-is-update :
+    driveOf binary32 (leftBy aimed .table) (leftBy aimed .whole) road 3 ≡ updated binary32 (leftBy aimed .whole) (chassisAt (leftBy aimed .table)) road 3 (leftBy aimed .table)
+witness-drive-is-update = demands.drive-is-update binary32 lent 1 0 aimed set-up-accepted road 3 then-driven
+
 -- ---- demand 3
 -- the front wheel, with its numbers: 3² / 4 + 2² is (5/2)²
 pub witness-sliding-grips : Grips binary32 (2 ^ 20) three minus-two five-halves
@@ -90,5 +114,29 @@ pub witness-airborne-within-brake : WithinBrake binary32 zero zero
 unfolding opened
 witness-airborne-within-brake = demands.unpowered-within-brake binary32 theDrive 1 (stepped 1 (lit< tt)) lifted-unpowered
 
-pub witness-impulses-are-its-own : (forwardImpulse binary32 theDrive 0 ≡ forwardImpulse binary32 otherDrive 0) × (sideImpulse binary32 theDrive 0 ≡ sideImpulse binary32 otherDrive 0)
+pub witness-impulses-are-its-own :
+    (forwardImpulse binary32 theDrive 0 ≡ forwardImpulse binary32 otherDrive 0)
+    × ((sideImpulse binary32 theDrive 0 ≡ sideImpulse binary32 otherDrive 0) × (skidAt binary32 theDrive 0 ≡ skidAt binary32 otherDrive 0))
 witness-impulses-are-its-own = demands.impulses-are-its-own drive-accepted other-accepted (lit< tt) (lit< tt) alike
+
+-- ---- the tables that the calls wrote are held, as the calls' own numbers are
+hands-held : HandsHeld binary32 aimed
+unfolding opened
+hands-held = refl
+
+pub witness-history-is-held : Held binary32 (leftBy aimed .table)
+witness-history-is-held = demands.history-is-held binary32 lent 1 0 aimed set-up-accepted hands-held
+
+drive-hands-held : handsHeld binary32 (Drive road 3) ≡ true
+unfolding opened
+drive-hands-held = refl
+
+pub witness-call-keeps-held : Held binary32 (run binary32 (Drive road 3) (leftBy aimed) .table)
+witness-call-keeps-held = demands.call-keeps-held binary32 (Drive road 3) (leftBy aimed) drive-hands-held witness-history-is-held
+
+after-accepted : Accepted binary32 (stepAfter binary32 (SetUp 1 0 ∷ aimed) lent road 3)
+unfolding opened
+after-accepted = refl
+
+pub witness-history-is-stepped : Stepped binary32 (stepAfter binary32 (SetUp 1 0 ∷ aimed) lent road 3) 0
+witness-history-is-stepped = demands.history-is-stepped binary32 lent 1 0 aimed set-up-accepted hands-held road 3 0 after-accepted (lit< tt)

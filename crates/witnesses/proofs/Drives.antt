@@ -1,12 +1,10 @@
--- The drives of the two histories meet what the demands ask of a step. In order: every stored number is held; each drive is accepted; its wheels; how the two are alike. Assumes nothing.
-use Prim.Native.Nat.{ℕ, zero, suc, _<_}
-use mathlib.Core.Bool.{Bool, true, false}
+-- The drives of the two histories meet what the demands ask of a step. In order: what each is lent; that it is accepted, and every stored number held; its wheels; how the two are alike. Assumes nothing.
+use Prim.Native.Nat.{ℕ, _<_}
+use mathlib.Core.Bool.{true, false}
 use mathlib.Core.List.{List, [], _∷_}
-use mathlib.Core.Path.{_≡_, refl, sym, subst, _∙_}
-use lib.Dec.{T, lit<}
-use lib.Ieee.{Float, binary32, fits, le}
-use Rattle.lists.specs.All.{all}
-use Rattle.lists.proofs.Picks.{pick-true}
+use mathlib.Core.Path.{_≡_, refl, sym, _∙_}
+use lib.Dec.{lit<}
+use lib.Ieee.{Float, binary32, le}
 use Rattle.real.specs.Number.{zero as none}
 use Rattle.marked.specs.Numbers.{three, six}
 use Rattle.body.specs.declared.Chassis.{Chassis}
@@ -15,17 +13,11 @@ use Rattle.ground.specs.Frame.{groundedAt}
 use Rattle.passes.specs.Passes.{stored}
 use Rattle.passes.specs.Step.{sprung}
 use Rattle.demands.specs.History.{state}
-use Rattle.demands.specs.Impulses.{Step, Held, Accepted, Stepped, Grounded, forwardDemand, sideDemand, gripLimit, forwardImpulse, sideImpulse, slidesAt, poweredAt, Alike}
+use Rattle.demands.specs.Held.{Held}
+use Rattle.demands.specs.Impulses.{Step, Accepted, Stepped, Grounded, forwardDemand, sideDemand, gripLimit, forwardImpulse, sideImpulse, slidesAt, poweredAt, Alike}
 use Rattle.witnesses.specs.Car.{minus-two, minus-four, sixty-four, five-halves}
 use Rattle.witnesses.specs.Calls.{aimed, otherAimed, leftBy, theDrive, otherDrive, sprungChassis}
 use Rattle.witnesses.specs.Opened.{opened}
-
--- ---- every number of a list is held, once a test has passed over it
-held-if : (t : List Float) → all (fits binary32) t ≡ true → Held binary32 t
-unfolding all fits
-held-if [] h k = tt
-held-if (x ∷ l) h zero = subst (λ (b : Bool). T b) (sym (pick-true (fits binary32 x) (all (fits binary32) l) h .0)) tt
-held-if (x ∷ l) h (suc k) = held-if l (pick-true (fits binary32 x) (all (fits binary32) l) h .1) k
 
 -- a wheel's two demands, its grip limit and its two impulses
 abbrev tyre : Step → ℕ → List Float
@@ -45,12 +37,12 @@ pub drive-accepted : Accepted binary32 theDrive
 unfolding opened
 drive-accepted = refl
 
-drive-held : all (fits binary32) (theDrive .table) ≡ true
+drive-held : Held binary32 (theDrive .table)
 unfolding opened
 drive-held = refl
 
 pub stepped : (i : ℕ) → i < 3 → Stepped binary32 theDrive i
-stepped i u = record { accepted = drive-accepted; held = held-if (theDrive .table) drive-held; counted = u }
+stepped i u = record { accepted = drive-accepted; held = drive-held; counted = u }
 
 pub front-grounded : Grounded binary32 theDrive 0
 unfolding opened

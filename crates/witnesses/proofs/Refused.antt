@@ -1,5 +1,6 @@
 -- A refused call of each kind, and the theorems of demand 1 on refusals applied to it: the kernel works out the number of its refusal list, and the theorem gives what the call answers and leaves. Assumes nothing.
-use Prim.Native.Nat.{ℕ, _≤_}
+use Prim.Native.Nat.{ℕ}
+use mathlib.Core.Bool.{true, false}
 use mathlib.Core.List.{List}
 use mathlib.Core.Path.{_≡_, refl, ap, _∙_}
 use borrow.Author.Tests.{eqb-false}
@@ -14,6 +15,7 @@ use Rattle.read_wheel.specs.Read.{readWheel, refuseRead, notRead}
 use Rattle.aim.specs.Aim.{aimOf, refuseAim, notAimed}
 use Rattle.drive.specs.Drive.{driveOf, refuseDrive, notDriven}
 use Rattle.demands.specs.History.{Drive, answered}
+use Rattle.demands.specs.Answers.{isOneOf, answers}
 use Rattle.demands.proofs.Demands as demands
 use Rattle.witnesses.specs.Car.{flattened, pressed, rolling, road}
 use Rattle.witnesses.specs.Calls.{fitted, leftBy}
@@ -99,5 +101,10 @@ witness-read-refused = demands.read-refused binary32 t m 0 (not-zero 5 read-refu
 pub witness-refusal-changes-nothing : (done : After ℕ) → settled 5 (λ n. n) done t m ≡ after 5 t m
 witness-refusal-changes-nothing done = demands.refusal-changes-nothing binary32 t m 5 (λ n. n) done (not-zero {n = 5} 5 refl refl)
 
-pub witness-answer-in-table : answered binary32 (Drive road 3) (leftBy fitted) .reply ≤ 10
-witness-answer-in-table = demands.answer-in-table binary32 (Drive road 3) (leftBy fitted)
+pub witness-answer-in-list : isOneOf (answered binary32 (Drive road 3) (leftBy fitted) .reply) (answers (Drive road 3)) ≡ true
+witness-answer-in-list = demands.answer-in-list binary32 (Drive road 3) (leftBy fitted)
+
+-- and its list has no 3, which an add may answer
+pub drive-has-no-3 : isOneOf 3 (answers (Drive road 3)) ≡ false
+unfolding opened
+drive-has-no-3 = refl

@@ -40,6 +40,9 @@ use Rattle.early.specs.Early.{frameTests, numberTests, rangeTests, earlyTests}
 use Rattle.drive.specs.Drive.{stepTests, refuseUnder, refuseDrive, idleAt, wakes, notDriven, drivenBy, driveUnder, driveOf}
 use Rattle.drive.specs.Results.{velocityList}
 use Rattle.demands.specs.History.{answered, accepted, run, runAll, drives, undrives, noneUndrives, drivenSince}
+use Rattle.demands.specs.Answers.{isOneOf, answers}
+use Rattle.demands.specs.Held.{areHeld, normalsIn, handsHeld}
+use Rattle.demands.specs.Update.{updateOf, updated}
 use Rattle.scenario.specs.Results.{wordsOf, flagWord}
 use Rattle.replies.specs.Replies.{aimResults, driveResults, readResults}
 use Rattle.witnesses.specs.Stream.{answerWords, answersWords, callWords, streamWords, resultsOf, answerOf, answersTo}
@@ -109,7 +112,7 @@ unfolding frameTests numberTests rangeTests earlyTests stepTests refuseUnder ref
 open-drives = tt
 
 unfoldable pub open-histories : Unit {0}
-unfolding answered accepted run runAll drives undrives noneUndrives drivenSince
+unfolding answered accepted run runAll drives undrives noneUndrives drivenSince isOneOf answers areHeld normalsIn handsHeld updateOf updated
 open-histories = tt
 
 unfoldable pub open-streams : Unit {0}
