@@ -6,7 +6,7 @@
 #include <stdio.h>
 #include <string.h>
 
-#include "vehicle.h"
+#include "car.h"
 
 enum { WHEELS = 4, TOO_MANY_BODIES = VEHICLE_MOST_BODIES + 1 };
 
@@ -27,11 +27,6 @@ static const float hanging[VEHICLE_SETTINGS_LEN] = {0, 0, 0, 0, -1, 0, 0, 0, 1, 
 
 /* Mass 4 and no inverse inertia, so that impulses only push. */
 static const float standing[VEHICLE_CHASSIS_LEN] = {0, 0, 0, 0, 0, 0, 1, 0, 0, 0, 0, 0, 0, 0, 0, 0, 0.25f, 0.25f, 0.25f, 0.25f, 0, 0, 0, 0, 0, 0};
-
-struct car {
-    float table[VEHICLE_TABLE_LEN];
-    uint32_t whole[VEHICLE_WHOLE_LEN];
-};
 
 /* ---- What is printed. ---- */
 
@@ -66,25 +61,6 @@ static void numbers(const float *of, int count)
 
 /* ---- The calls on a car. ---- */
 
-static uint32_t set_up(struct car *car, uint32_t up)
-{
-    return vehicle_set_up(car->table, VEHICLE_TABLE_LEN, car->whole, VEHICLE_WHOLE_LEN, up, 0);
-}
-
-static uint32_t add_wheel(struct car *car, const float settings[VEHICLE_SETTINGS_LEN])
-{
-    return vehicle_add_wheel(car->table, VEHICLE_TABLE_LEN, car->whole, VEHICLE_WHOLE_LEN, settings, VEHICLE_SETTINGS_LEN);
-}
-
-/* Steers straight on. */
-static uint32_t set_controls(struct car *car, uint32_t wheel, float engine, float brake)
-{
-    float controls[VEHICLE_CONTROLS_LEN] = {0, 0, 0, 0, 0, 1};
-    controls[0] = engine;
-    controls[1] = brake;
-    return vehicle_set_controls(car->table, VEHICLE_TABLE_LEN, car->whole, VEHICLE_WHOLE_LEN, wheel, controls, VEHICLE_CONTROLS_LEN);
-}
-
 static uint32_t aim(struct car *car, const float chassis[VEHICLE_CHASSIS_LEN], float sights[VEHICLE_AIM_LEN])
 {
     return vehicle_aim(car->table, VEHICLE_TABLE_LEN, car->whole, VEHICLE_WHOLE_LEN, chassis, VEHICLE_CHASSIS_LEN, sights, VEHICLE_AIM_LEN);
@@ -115,11 +91,6 @@ static uint32_t drive(struct car *car, uint32_t kind, size_t answers, size_t bod
         rays[i * VEHICLE_RAY_LEN + 2] = 1; /* normal */
     }
     return vehicle_drive(car->table, VEHICLE_TABLE_LEN, car->whole, VEHICLE_WHOLE_LEN, 0.5f, body, bodies * VEHICLE_BODY_LEN, dynamic, bodies, kinds, answers, named, answers, rays, answers * VEHICLE_RAY_LEN, driven, VEHICLE_DRIVE_LEN);
-}
-
-static uint32_t read_wheel(const struct car *car, uint32_t wheel, float tyre[VEHICLE_READ_LEN])
-{
-    return vehicle_read_wheel(car->table, VEHICLE_TABLE_LEN, car->whole, VEHICLE_WHOLE_LEN, wheel, tyre, VEHICLE_READ_LEN);
 }
 
 /* ---- The car. ---- */
@@ -185,7 +156,7 @@ static void two_frames(struct car *car)
 /* Refusal 1, of the driven car's table. */
 static void refused_set_up(struct car *car)
 {
-    line("axis 3", set_up(car, 3));
+    line("axis 3", set_up(car, 3, 0));
     line("table too short", vehicle_set_up(car->table + 1, VEHICLE_TABLE_LEN - 1, car->whole, VEHICLE_WHOLE_LEN, 1, 0));
 }
 
@@ -234,7 +205,7 @@ static void refused_wheels(void)
 {
     struct car car = {{0}, {0}};
     int i;
-    set_up(&car, 1);
+    set_up(&car, 1, 0);
     line("radius 0", add_with_radius(&car, 0));
     for (i = 0; i < VEHICLE_MOST_WHEELS; i++)
         add_with_radius(&car, 1);
@@ -259,7 +230,7 @@ static uint32_t step_of(float sideways, float effective)
     chassis[INVMASS] = 1 / greatest;
     for (i = 0; i < 3; i++)
         chassis[EFFECTIVE + i] = effective;
-    set_up(&car, 1);
+    set_up(&car, 1, 0);
     add_wheel(&car, settings);
     aim(&car, chassis, sights);
     return drive(&car, VEHICLE_HIT, 1, 0, driven);
@@ -275,7 +246,7 @@ static void refused_steps(void)
 int main(void)
 {
     struct car car = {{0}, {0}};
-    line("set up", set_up(&car, 1));
+    line("set up", set_up(&car, 1, 0));
     add_four(&car);
     control_two(&car);
     two_frames(&car);

@@ -3,7 +3,7 @@
 #include <stdlib.h>
 #include <string.h>
 
-#include "vehicle.h"
+#include "car.h"
 
 static int checks = 0;
 
@@ -19,30 +19,6 @@ static void check(int holds, const char *what, int line)
 #define CHECK(holds) check(holds, #holds, __LINE__)
 
 enum { WHEELS = 4, COUNT = 0 };
-
-struct car {
-    float table[VEHICLE_TABLE_LEN];
-    uint32_t whole[VEHICLE_WHOLE_LEN];
-};
-
-/* The calls on a car, with every length filled in. */
-static uint32_t set_up(struct car *car, uint32_t up, uint32_t forward)
-{
-    return vehicle_set_up(car->table, VEHICLE_TABLE_LEN, car->whole, VEHICLE_WHOLE_LEN, up, forward);
-}
-
-static uint32_t add_wheel(struct car *car, const float settings[VEHICLE_SETTINGS_LEN])
-{
-    return vehicle_add_wheel(car->table, VEHICLE_TABLE_LEN, car->whole, VEHICLE_WHOLE_LEN, settings, VEHICLE_SETTINGS_LEN);
-}
-
-static uint32_t set_controls(struct car *car, uint32_t wheel, float engine, float brake)
-{
-    float controls[VEHICLE_CONTROLS_LEN] = {0, 0, 0, 0, 0, 1};
-    controls[0] = engine;
-    controls[1] = brake;
-    return vehicle_set_controls(car->table, VEHICLE_TABLE_LEN, car->whole, VEHICLE_WHOLE_LEN, wheel, controls, VEHICLE_CONTROLS_LEN);
-}
 
 /* Mass 4 and no inverse inertia, so that impulses only push. */
 static uint32_t aim(struct car *car, float x, float z, float sights[VEHICLE_AIM_LEN])
@@ -72,11 +48,6 @@ static uint32_t drive(struct car *car, float dt, uint32_t kind, float driven[VEH
         rays[i * VEHICLE_RAY_LEN + 2] = 1; /* normal */
     }
     return vehicle_drive(car->table, VEHICLE_TABLE_LEN, car->whole, VEHICLE_WHOLE_LEN, dt, no_body, 0, no_flag, 0, kinds, WHEELS, named, WHEELS, rays, WHEELS * VEHICLE_RAY_LEN, driven, VEHICLE_DRIVE_LEN);
-}
-
-static uint32_t read_wheel(const struct car *car, uint32_t wheel, float tyre[VEHICLE_READ_LEN])
-{
-    return vehicle_read_wheel(car->table, VEHICLE_TABLE_LEN, car->whole, VEHICLE_WHOLE_LEN, wheel, tyre, VEHICLE_READ_LEN);
 }
 
 static int are(const float *numbers, float x, float y, float z)

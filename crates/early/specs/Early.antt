@@ -1,4 +1,4 @@
--- Document 01, "Refusals": the tests of a drive that come before its step, in the order 1, 5, 6, 2, 10. They read what is stored and what is handed in. Definitions only.
+-- Document 01, "Refusal numbers": the tests of a drive that come before its step, in the order 1, 5, 6, 2, 10. They read what is stored and what is handed in. Definitions only.
 use Prim.Native.Nat.{ℕ, _*_}
 use mathlib.Core.Bool.{Bool}
 use mathlib.Core.List.{List, [], _∷_, _++_}
