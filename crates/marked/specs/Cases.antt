@@ -10,7 +10,9 @@ use Rattle.tyre.specs.declared.WheelTuning.{WheelTuning}
 use Rattle.tyre.specs.Suspension.{clip, suspensionLength, approachOf, suspensionForce}
 use Rattle.tyre.specs.Grip.{skidOf, rescaledBy, brakedOf}
 use Rattle.grammar.specs.Layout.{WIDTHS}
-use Rattle.numbers.specs.Number.{writeNumber}
+use Rattle.numbers.specs.declared.Number.{Number}
+use Rattle.numbers.specs.declared.Number.the-variants.{Value, Short, Bad}
+use Rattle.numbers.specs.Number.{readNumber, writeNumber}
 
 pub record Case : Type 0 where
   pub marked : ℕ
@@ -46,6 +48,16 @@ impulses forward side limit =
     let skid = skidOf binary32 forward side limit in
     numbers (rescaledBy binary32 skid forward ∷ rescaledBy binary32 skid side ∷ skid ∷ [])
 
+-- case 12: the number that stands at the start of the bytes of a float, and how many of them it takes; nothing where none does
+unfoldable pub valued : Number → List ℕ
+valued (Value v n) = v ∷ n ∷ []
+valued Short = []
+valued Bad = []
+
+unfoldable pub floatRead : List ℕ → List ℕ
+floatRead bytes = valued (readNumber (WIDTHS .float) bytes)
+
+-- the last is stated of the writer and of the reader
 unfoldable pub cases : List Case
 cases =
     (case 1 gives number (rootOf binary32 (ofBits binary32 0x4000_0000)) asks (0x3FB5_04F3 ∷ []))
@@ -60,6 +72,7 @@ cases =
     ∷ (case 10 gives impulses twelve eight zero asks numbers (zero ∷ zero ∷ zero ∷ []))
     ∷ (case 11 gives number (brakedOf three seven) asks number three)
     ∷ (case 12 gives writeNumber (WIDTHS .float) (toBits binary32 one) asks (0x80 ∷ 0x80 ∷ 0x80 ∷ 0xFC ∷ 0x03 ∷ []))
+    ∷ (case 12 gives floatRead (0x80 ∷ 0x80 ∷ 0x80 ∷ 0xFC ∷ 0x03 ∷ []) asks (0x3F80_0000 ∷ 5 ∷ []))
     ∷ []
 
 -- every case is met
