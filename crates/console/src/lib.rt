@@ -9,14 +9,16 @@ use session::layout::WINDOW_BYTES;
 use table::layout::SIZE;
 use table::layout::WHOLE;
 ghost use Prim.Native.Nat.{_≤_};
+ghost use mathlib.Core.Path.{_≡_};
 ghost use lib.ListN.{length};
 ghost use Rattle.session.specs.Layout as layout;
+ghost use Rattle.console.specs.Reading.{Fills, ReadsOn};
 
-// Where the reading stands: how many bytes are in the window, whether the input has ended, and whether the program goes on.
+// Where the reading stands: how many bytes are in the window, whether the input has ended, and whether the program runs on.
 struct Input {
     filled: usize,
-    is_last: bool,
-    goes_on: bool,
+    last: bool,
+    runs: bool,
 }
 
 // Writes the first bytes of a buffer, and answers whether it could.
@@ -45,7 +47,7 @@ fn is_interrupted(got: isize) -> bool {
 // Reads what comes next, and answers how many bytes: none at the end of the input, or where it cannot be read. An interrupted read is no end: it is made
 // again, and since a proved loop has to end, the tries are counted down from a number that no run uses up.
 fn read_some(free: &mut [u8]) -> usize
-    ensures { λ r. ⌜ r ≤ length (now (free .entry)) ⌝ }
+    ensures { λ r. ⌜ (r ≤ length (now (free .entry))) × (length (now (free .exit)) ≡ length (now (free .entry))) ⌝ }
 {
     let mut got = libc::read(STDIN_FILENO, free);
     let mut tries = u64::MAX;
@@ -59,7 +61,7 @@ fn read_some(free: &mut [u8]) -> usize
 // Reads behind the first bytes of a window, and answers how many it has then.
 fn read_behind(window: &mut [u8], filled: usize) -> usize
     requires { ⌜ filled ≤ length (now window) ⌝ }
-    ensures { λ r. ⌜ r ≤ length (now (window .entry)) ⌝ }
+    ensures { λ r. ⌜ Fills filled r (now (window .entry)) (now (window .exit)) ⌝ }
 {
     let n = read_some(&mut window[filled..]);
     filled + n
@@ -68,34 +70,34 @@ fn read_behind(window: &mut [u8], filled: usize) -> usize
 // The same, where the window's length is known.
 pub fn fill(window: &mut [u8; WINDOW_BYTES], filled: usize) -> usize
     requires { ⌜ filled ≤ layout.WINDOW-BYTES ⌝ }
-    ensures { λ r. ⌜ r ≤ layout.WINDOW-BYTES ⌝ }
+    ensures { λ r. ⌜ Fills filled r (now (window .entry)) (now (window .exit)) × (r ≤ layout.WINDOW-BYTES) ⌝ }
 {
     read_behind(window, filled)
 }
 
 // What comes after a step: another one at once, or when more bytes have come; or nothing.
-fn read_on(window: &mut [u8; WINDOW_BYTES], step: Step, is_last: bool) -> Input
+fn read_on(window: &mut [u8; WINDOW_BYTES], step: Step, last: bool) -> Input
     requires { ⌜ step .filled ≤ layout.WINDOW-BYTES ⌝ }
-    ensures { λ r. ⌜ r .filled ≤ layout.WINDOW-BYTES ⌝ }
+    ensures { λ r. ⌜ ReadsOn (step .stands) step last r (now (window .entry)) (now (window .exit)) × (r .filled ≤ layout.WINDOW-BYTES) ⌝ }
 {
     let stands = step.stands;
     match stands {
         Stands::Ended => Input {
             filled: step.filled,
-            is_last,
-            goes_on: false,
+            last,
+            runs: false,
         },
         Stands::Full => Input {
             filled: step.filled,
-            is_last,
-            goes_on: true,
+            last,
+            runs: true,
         },
         Stands::More => {
             let filled = fill(window, step.filled);
             Input {
                 filled,
-                is_last: filled == step.filled,
-                goes_on: true,
+                last: filled == step.filled,
+                runs: true,
             }
         }
     }
@@ -112,15 +114,15 @@ fn turn(
     requires { ⌜ input .filled ≤ layout.WINDOW-BYTES ⌝ }
     ensures { λ r. ⌜ r .filled ≤ layout.WINDOW-BYTES ⌝ }
 {
-    let step = session::window::step(window, input.filled, input.is_last, table, whole, out);
+    let step = session::window::step(window, input.filled, input.last, table, whole, out);
     if !write_text(out, step.at) {
         return Input {
             filled: 0,
-            is_last: true,
-            goes_on: false,
+            last: true,
+            runs: false,
         };
     }
-    read_on(window, step, input.is_last)
+    read_on(window, step, input.last)
 }
 
 // Takes turns from a window with so many bytes until the program ends, and answers how many bytes are left at the window's start: a code 0 that ended it
@@ -137,11 +139,11 @@ pub fn serve(
 {
     let mut input = Input {
         filled,
-        is_last: false,
-        goes_on: true,
+        last: false,
+        runs: true,
     };
     let mut turns = u64::MAX;
-    while turns > 0 && input.goes_on {
+    while turns > 0 && input.runs {
         turns -= 1u64;
         input = turn(window, input, table, whole, out);
     }
