@@ -10,9 +10,16 @@ use table::layout::SIZE;
 use table::layout::WHOLE;
 ghost use Prim.Native.Nat.{_≤_};
 ghost use mathlib.Core.Path.{_≡_};
-ghost use lib.ListN.{length};
+ghost use lib.ListN.{length, take};
+ghost use Rattle.scenario.specs.Format.{format};
+ghost use Rattle.turns.specs.Car.{car};
 ghost use Rattle.session.specs.Layout as layout;
+ghost use Rattle.session.specs.Program.{startCar};
+ghost use Rattle.session.specs.Runs.{runOf};
 ghost use Rattle.console.specs.Reading.{Fills, ReadsOn};
+ghost use Rattle.console.specs.Writing.{Printed};
+ghost use Rattle.console.specs.Turning.{Turned};
+ghost use Rattle.console.specs.Serves.{Serves};
 
 // Where the reading stands: how many bytes are in the window, whether the input has ended, and whether the program runs on.
 struct Input {
@@ -23,14 +30,14 @@ struct Input {
 
 // Writes the first bytes of a buffer, and answers whether it could.
 fn write_first(out: &[u8], at: usize) -> bool
-    requires { ⌜ at ≤ length (now out) ⌝ }
+    requires { ⌜ (at ≤ length (now out)) × Printed (take at (now out)) ⌝ }
 {
     io::write_all(STDOUT_FILENO, &out[..at])
 }
 
 // The same, where the buffer's length is known.
-pub fn write_text(out: &[u8; TEXT_BYTES], at: usize) -> bool
-    requires { ⌜ at ≤ layout.TEXT-BYTES ⌝ }
+fn write_text(out: &[u8; TEXT_BYTES], at: usize) -> bool
+    requires { ⌜ (at ≤ layout.TEXT-BYTES) × Printed (take at (now out)) ⌝ }
 {
     write_first(out, at)
 }
@@ -112,7 +119,7 @@ fn turn(
     out: &mut [u8; TEXT_BYTES],
 ) -> Input
     requires { ⌜ input .filled ≤ layout.WINDOW-BYTES ⌝ }
-    ensures { λ r. ⌜ r .filled ≤ layout.WINDOW-BYTES ⌝ }
+    ensures { λ r. ⌜ Turned (runOf format (input .last) (car (now (table .entry)) (now (whole .entry))) layout.TEXT-BYTES (take (input .filled) (now (window .entry)))) (take (input .filled) (now (window .entry))) (input .last) r (now (window .exit)) (now (out .entry)) (now (out .exit)) (now (table .exit)) (now (whole .exit)) ⌝ }
 {
     let step = session::window::step(window, input.filled, input.last, table, whole, out);
     if !write_text(out, step.at) {
@@ -127,7 +134,7 @@ fn turn(
 
 // Takes turns from a window with so many bytes until the program ends, and answers how many bytes are left at the window's start: a code 0 that ended it
 // is the first. A proved loop has to end, and nothing says that a stream does: the turns are counted down from a number that no run uses up.
-pub fn serve(
+fn serve(
     window: &mut [u8; WINDOW_BYTES],
     filled: usize,
     table: &mut [f32; SIZE],
@@ -135,7 +142,7 @@ pub fn serve(
     out: &mut [u8; TEXT_BYTES],
 ) -> usize
     requires { ⌜ filled ≤ layout.WINDOW-BYTES ⌝ }
-    ensures { λ r. ⌜ r ≤ layout.WINDOW-BYTES ⌝ }
+    ensures { λ r. ⌜ Serves (car (now (table .entry)) (now (whole .entry))) (take filled (now (window .entry))) r (now (window .exit)) (now (table .exit)) (now (whole .exit)) ⌝ }
 {
     let mut input = Input {
         filled,
@@ -148,4 +155,23 @@ pub fn serve(
         input = turn(window, input, table, whole, out);
     }
     input.filled
+}
+
+// Runs the program from its start, over the first bytes of a window and then over standard input, and answers how many bytes are left at the window's
+// start: none where a text could not be written.
+pub fn run(
+    window: &mut [u8; WINDOW_BYTES],
+    filled: usize,
+    table: &mut [f32; SIZE],
+    whole: &mut [u32; WHOLE],
+    out: &mut [u8; TEXT_BYTES],
+) -> usize
+    requires { ⌜ filled ≤ layout.WINDOW-BYTES ⌝ }
+    ensures { λ r. ⌜ Serves startCar (take filled (now (window .entry))) r (now (window .exit)) (now (table .exit)) (now (whole .exit)) ⌝ }
+{
+    let at = session::start::start(table, whole, out);
+    if !write_text(out, at) {
+        return 0;
+    }
+    serve(window, filled, table, whole, out)
 }

@@ -16,9 +16,7 @@ fn play(window: &mut [u8; WINDOW_BYTES], filled: usize, out: &mut [u8; TEXT_BYTE
 {
     let mut table = [0.0; SIZE];
     let mut whole = [0u32; WHOLE];
-    let at = session::start::start(&mut table, &mut whole, out);
-    console::write_text(out, at);
-    console::serve(window, filled, &mut table, &mut whole, out)
+    console::run(window, filled, &mut table, &mut whole, out)
 }
 
 // Moves what stands one byte behind the start of the code that ended a scenario to the window's start, reads on if that is nothing, and answers how many

@@ -7,8 +7,5 @@ fn main() {
     let mut whole = [0u32; WHOLE];
     let mut window = io::large_buffer();
     let mut out = io::large_buffer();
-    let at = session::start::start(&mut table, &mut whole, &mut out);
-    if console::write_text(&out, at) {
-        console::serve(&mut window, 0, &mut table, &mut whole, &mut out);
-    }
+    console::run(&mut window, 0, &mut table, &mut whole, &mut out);
 }
