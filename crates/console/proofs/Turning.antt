@@ -47,10 +47,10 @@ module _ {x : Ran} {bytes : List ℕ} {s : Step} {first window before after : Li
       Follows.more e (rw h at q) (take (r .filled - s .filled) (drop (s .filled) window')) (fills-some fills (eqb-false (r .filled) (s .filled) h))
       (fills-behind fills ∙ ap (λ (l : List ℕ). l ++ take (r .filled - s .filled) (drop (s .filled) window')) (step-leaves p))
 
-  pub read-follows : ReadsOn (s .stands) s last r window window' → Follows x bytes last r window'
+  pub read-follows : ReadsOn (s .stands) (s .filled) last r window window' → Follows x bytes last r window'
   read-follows = go (s .stands) (sym (p .stands))
     where
-      go : (e : Stands) → x .stands ≡ e → ReadsOn e s last r window window' → Follows x bytes last r window'
+      go : (e : Stands) → x .stands ≡ e → ReadsOn e (s .filled) last r window window' → Follows x bytes last r window'
       go Stands.Ended e q =
           let count : r .filled ≡ s .filled = ap (λ (z : Input). z .filled) (q .0) in
           Follows.ended e (q .0 ∙ ap (λ (n : ℕ). input n last false) (sym count)) (rw (count, q .1) (step-leaves p))

@@ -4,10 +4,18 @@ use mathlib.Core.Bool.{Bool, true, false}
 use mathlib.Core.List.{List}
 use mathlib.Core.Path.{_≡_}
 use lib.Dec.{eqb}
+use lib.IntN.{ℤ, pos, negsuc}
 use lib.ListN.{length, take}
 use Rattle.session.specs.declared.Stands.{Stands}
-use Rattle.session.specs.declared.Step.{Step}
 use Rattle.console.specs.declared.Input.{Input}
+
+abbrev pub input : ℕ → Bool → Bool → Input
+input filled last runs = record { filled = filled; last = last; runs = runs }
+
+-- a read that moved bytes, or came to the end of the input, was not interrupted; of one that failed nothing is known
+abbrev pub Interrupted : ℤ → Bool → Type 0
+Interrupted (pos n) r = r ≡ false
+Interrupted (negsuc n) r = Unit
 
 -- bytes are read behind the first ones of a window, which are kept; r of them stand there then
 pub record Fills (filled r : ℕ) (before after : List ℕ) : Type 0 where
@@ -16,11 +24,12 @@ pub record Fills (filled r : ℕ) (before after : List ℕ) : Type 0 where
   pub from : filled ≤ r
   pub fits : r ≤ length before
 
-abbrev pub input : ℕ → Bool → Bool → Input
-input filled last runs = record { filled = filled; last = last; runs = runs }
+-- more bytes are read; a read that gives none is the last one
+abbrev pub ReadsMore : ℕ → Input → List ℕ → List ℕ → Type 0
+ReadsMore filled r before after = (r ≡ input (r .filled) (eqb (r .filled) filled) true) × Fills filled (r .filled) before after
 
--- what comes after a run, by how it stands. Where more bytes have to come they are read, and a read that gives none is the last one.
-abbrev pub ReadsOn : Stands → Step → Bool → Input → List ℕ → List ℕ → Type 0
-ReadsOn Stands.Ended s last r before after = (r ≡ input (s .filled) last false) × (after ≡ before)
-ReadsOn Stands.Full s last r before after = (r ≡ input (s .filled) last true) × (after ≡ before)
-ReadsOn Stands.More s last r before after = (r ≡ input (r .filled) (eqb (r .filled) (s .filled)) true) × Fills (s .filled) (r .filled) before after
+-- what comes after a run that left so many bytes, by how it stands: nothing, another run at once, or one with more bytes
+abbrev pub ReadsOn : Stands → ℕ → Bool → Input → List ℕ → List ℕ → Type 0
+ReadsOn Stands.Ended filled last r before after = (r ≡ input filled last false) × (after ≡ before)
+ReadsOn Stands.Full filled last r before after = (r ≡ input filled last true) × (after ≡ before)
+ReadsOn Stands.More filled last r before after = ReadsMore filled r before after

@@ -16,7 +16,7 @@ ghost use Rattle.turns.specs.Car.{car};
 ghost use Rattle.session.specs.Layout as layout;
 ghost use Rattle.session.specs.Program.{startCar};
 ghost use Rattle.session.specs.Runs.{runOf};
-ghost use Rattle.console.specs.Reading.{Fills, ReadsOn};
+ghost use Rattle.console.specs.Reading.{input, Interrupted, Fills, ReadsMore, ReadsOn};
 ghost use Rattle.console.specs.Writing.{Printed};
 ghost use Rattle.console.specs.Turning.{Turned};
 ghost use Rattle.console.specs.Serves.{Serves};
@@ -28,7 +28,13 @@ struct Input {
     runs: bool,
 }
 
-// Writes the first bytes of a buffer, and answers whether it could.
+fn standing(filled: usize, last: bool, runs: bool) -> Input
+    ensures { λ r. ⌜ r ≡ input filled last runs ⌝ }
+{
+    Input { filled, last, runs }
+}
+
+// Writes the first bytes of a buffer, which are what the program prints next, and answers whether it could.
 fn write_first(out: &[u8], at: usize) -> bool
     requires { ⌜ (at ≤ length (now out)) × Printed (take at (now out)) ⌝ }
 {
@@ -43,7 +49,9 @@ fn write_text(out: &[u8; TEXT_BYTES], at: usize) -> bool
 }
 
 // Whether a read that answered so was interrupted by a signal before it had any byte.
-fn is_interrupted(got: isize) -> bool {
+fn is_interrupted(got: isize) -> bool
+    ensures { λ r. ⌜ Interrupted got r ⌝ }
+{
     if got < 0 {
         os::errno() == libc::EINTR
     } else {
@@ -82,31 +90,25 @@ pub fn fill(window: &mut [u8; WINDOW_BYTES], filled: usize) -> usize
     read_behind(window, filled)
 }
 
-// What comes after a step: another one at once, or when more bytes have come; or nothing.
+// Reads behind the window's first bytes. A read that gives nothing is the last one.
+fn read_more(window: &mut [u8; WINDOW_BYTES], filled: usize) -> Input
+    requires { ⌜ filled ≤ layout.WINDOW-BYTES ⌝ }
+    ensures { λ r. ⌜ ReadsMore filled r (now (window .entry)) (now (window .exit)) × (r .filled ≤ layout.WINDOW-BYTES) ⌝ }
+{
+    let now = fill(window, filled);
+    standing(now, now == filled, true)
+}
+
+// What comes after a step whose text is written: another one at once, or when more bytes have come; or nothing.
 fn read_on(window: &mut [u8; WINDOW_BYTES], step: Step, last: bool) -> Input
     requires { ⌜ step .filled ≤ layout.WINDOW-BYTES ⌝ }
-    ensures { λ r. ⌜ ReadsOn (step .stands) step last r (now (window .entry)) (now (window .exit)) × (r .filled ≤ layout.WINDOW-BYTES) ⌝ }
+    ensures { λ r. ⌜ ReadsOn (step .stands) (step .filled) last r (now (window .entry)) (now (window .exit)) × (r .filled ≤ layout.WINDOW-BYTES) ⌝ }
 {
     let stands = step.stands;
     match stands {
-        Stands::Ended => Input {
-            filled: step.filled,
-            last,
-            runs: false,
-        },
-        Stands::Full => Input {
-            filled: step.filled,
-            last,
-            runs: true,
-        },
-        Stands::More => {
-            let filled = fill(window, step.filled);
-            Input {
-                filled,
-                last: filled == step.filled,
-                runs: true,
-            }
-        }
+        Stands::Ended => standing(step.filled, last, false),
+        Stands::Full => standing(step.filled, last, true),
+        Stands::More => read_more(window, step.filled),
     }
 }
 
@@ -123,11 +125,7 @@ fn turn(
 {
     let step = session::window::step(window, input.filled, input.last, table, whole, out);
     if !write_text(out, step.at) {
-        return Input {
-            filled: 0,
-            last: true,
-            runs: false,
-        };
+        return standing(0, true, false);
     }
     read_on(window, step, input.last)
 }
@@ -144,11 +142,7 @@ fn serve(
     requires { ⌜ filled ≤ layout.WINDOW-BYTES ⌝ }
     ensures { λ r. ⌜ Serves (car (now (table .entry)) (now (whole .entry))) (take filled (now (window .entry))) r (now (window .exit)) (now (table .exit)) (now (whole .exit)) ⌝ }
 {
-    let mut input = Input {
-        filled,
-        last: false,
-        runs: true,
-    };
+    let mut input = standing(filled, false, true);
     let mut turns = u64::MAX;
     while turns > 0 && input.runs {
         turns -= 1u64;

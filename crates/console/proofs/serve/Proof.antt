@@ -14,7 +14,7 @@ abbrev μ-loop : tie.MeasureT-loop
 μ-loop window₀ filled table₀ whole₀ out₀ input₀ turns₀ window table whole out input turns = turns
 
 loop-holds : tie.Need-loop-holds Inv-loop μ-loop
-loop-holds c = loop-starts _ _ _ _ (c .pre)
+loop-holds c = rw (c .standing .ensures) (loop-starts _ _ _ _ (c .before .pre))
 
 sub-turns : tie.Need-sub-turns Inv-loop μ-loop
 sub-turns c = omega arith
@@ -42,6 +42,7 @@ serve-spec =
     (tie.spec
     Inv-loop
     μ-loop
+    (λ c κs. tt)
     loop-holds
     sub-turns
     turn-requires
