@@ -4,7 +4,9 @@ use session::layout::WINDOW_BYTES;
 use table::layout::SIZE;
 use table::layout::WHOLE;
 ghost use Prim.Native.Nat.{_≤_};
+ghost use lib.ListN.{take};
 ghost use Rattle.session.specs.Layout as layout;
+ghost use Rattle.replay.specs.Scenarios.{Plays, Begins};
 
 // The bytes of a code 0.
 const END_BYTES: usize = 1;
@@ -12,7 +14,7 @@ const END_BYTES: usize = 1;
 // Plays the scenario at the start of the window, with so many bytes there, and answers how many are left.
 fn play(window: &mut [u8; WINDOW_BYTES], filled: usize, out: &mut [u8; TEXT_BYTES]) -> usize
     requires { ⌜ filled ≤ layout.WINDOW-BYTES ⌝ }
-    ensures { λ r. ⌜ r ≤ layout.WINDOW-BYTES ⌝ }
+    ensures { λ r. ⌜ Plays (take filled (now (window .entry))) r (now (window .exit)) × (r ≤ layout.WINDOW-BYTES) ⌝ }
 {
     let mut table = [0.0; SIZE];
     let mut whole = [0u32; WHOLE];
@@ -23,7 +25,7 @@ fn play(window: &mut [u8; WINDOW_BYTES], filled: usize, out: &mut [u8; TEXT_BYTE
 // bytes are there. That is behind a code 0; in a malformed code, the rest of it.
 fn next(window: &mut [u8; WINDOW_BYTES], left: usize) -> usize
     requires { ⌜ left ≤ layout.WINDOW-BYTES ⌝ }
-    ensures { λ r. ⌜ r ≤ layout.WINDOW-BYTES ⌝ }
+    ensures { λ r. ⌜ Begins left r (now (window .entry)) (now (window .exit)) × (r ≤ layout.WINDOW-BYTES) ⌝ }
 {
     if left < END_BYTES {
         return 0;
