@@ -1,11 +1,14 @@
--- Laws on the program's loop. In order: what a run more makes of the car and of the blocks; where the loop stands; it starts; a turn; its end. Assumes nothing.
-use Prim.Native.Nat.{ℕ, zero, suc, _+_, _≤_}
+-- Laws on the program's loop. In order: blocks that were read; what a run more makes of the car and of the blocks; where the loop stands; it starts; a turn; its end. Assumes nothing.
+use Prim.Native.Nat.{ℕ, zero, suc, _+_, _≤_, _<_}
 use mathlib.Core.Bool.{Bool, true, false}
 use mathlib.Core.List.{List, [], _∷_, _++_, append-assoc}
 use mathlib.Core.Path.{_≡_, refl, sym, ap, _∙_}
 use native.Mathlib.Omega.{arith}
 use lib.Ieee.{Float, Format}
-use lib.ListN.{take, drop}
+use borrow.Author.Tests.{lt-ltb}
+use lib.ListN.{length, take, drop}
+use Rattle.lists.specs.All.{all}
+use Rattle.lists.proofs.Picks.{pick-true}
 use Rattle.lists.specs.Pick.{pick}
 use Rattle.scenario.specs.Format.{format}
 use Rattle.turns.specs.Car.{Car, car}
@@ -17,7 +20,23 @@ use Rattle.session.proofs.Windows.{run-goes}
 use Rattle.console.specs.declared.Input.{Input}
 use Rattle.console.specs.Reading.{input}
 use Rattle.console.specs.Turning.{Follows, Turned}
-use Rattle.console.specs.Serves.{Progress, progress, serving, onBy, on, after, RUNS, Stops, Serves}
+use Rattle.console.specs.Serves.{Progress, progress, serving, onBy, on, after, RUNS, Stops, given, Serves}
+
+-- ---- blocks that were read
+none-gave : all given [] ≡ true
+unfolding all
+none-gave = refl
+
+more-gave : (l m : List (List ℕ)) → all given l ≡ true → all given m ≡ true → all given (l ++ m) ≡ true
+unfolding all pick
+more-gave [] m e h = h
+more-gave (x ∷ l) m e h =
+    let both = pick-true (given x) (all given l) e in
+    rw (both .0) (more-gave l m (both .1) h)
+
+one-gave : (b : List ℕ) → 0 < length b → all given (b ∷ []) ≡ true
+unfolding all pick
+one-gave b h = rw (lt-ltb 0 (length b) h)
 
 -- ---- a run more
 pulled-car : (s : Car) (w : List ℕ) (blocks : List (List ℕ)) → pulled s w blocks .car ≡ s
@@ -48,6 +67,7 @@ on-by f room text x e h = rw h
 pub record Going (s : Car) (bytes : List ℕ) (k : ℕ) (i : Input) (window : List ℕ) (t : List Float) (m : List ℕ) : Type 0 where
   pub text : List ℕ
   pub read : List (List ℕ)
+  pub gave : all given read ≡ true
   pub same : (rest : List (List ℕ)) → (i .last ≡ true → rest ≡ []) → after format TEXT-BYTES k (serving false s bytes (read ++ rest)) ≡ progress text (serving (i .last) (car t m) (take (i .filled) window) rest) false
 
 pub record Loop (s : Car) (bytes : List ℕ) (turns : ℕ) (i : Input) (window : List ℕ) (t : List Float) (m : List ℕ) : Type 0 where
@@ -63,7 +83,7 @@ loop-starts filled window t m h = record {
   fits = h;
   k = 0;
   counted = refl;
-  goes = λ _. record { text = []; read = []; same = λ rest e. refl };
+  goes = λ _. record { text = []; read = []; gave = none-gave; same = λ rest e. refl };
   stopped = λ e. let z : _≡_ {A = ℕ} 0 1 = cc in absurd (omega arith);
 }
 
@@ -85,16 +105,17 @@ module _ {s : Car} {bytes : List ℕ} {k : ℕ} {i : Input} {window : List ℕ} 
     unfolding onBy
     goes-full e q left =
         let last : r .last ≡ i .last = ap (λ (z : Input). z .last) q in
-        record { text = g .text ++ here .text; read = g .read; same = λ rest none. next-run Stands.Full rest e (λ h. none (last ∙ h)) ∙ rw (last, left, cars) }
+        record { text = g .text ++ here .text; read = g .read; gave = g .gave; same = λ rest none. next-run Stands.Full rest e (λ h. none (last ∙ h)) ∙ rw (last, left, cars) }
 
-    goes-more : (block : List ℕ) → here .stands ≡ Stands.More → r ≡ input (r .filled) false true → take (r .filled) window' ≡ drop (here .taken) (take (i .filled) window) ++ block → Going s bytes (suc k) r window' t' m'
+    goes-more : (block : List ℕ) → 0 < length block → here .stands ≡ Stands.More → r ≡ input (r .filled) false true → take (r .filled) window' ≡ drop (here .taken) (take (i .filled) window) ++ block → Going s bytes (suc k) r window' t' m'
     unfolding onBy pulled
-    goes-more block e q left =
+    goes-more block some e q left =
         let last : r .last ≡ false = ap (λ (z : Input). z .last) q in
         let going : i .last ≡ false = run-goes format (i .last) (car t m) TEXT-BYTES (take (i .filled) window) .more e .0 in
         record {
           text = g .text ++ here .text;
           read = g .read ++ (block ∷ []);
+          gave = more-gave (g .read) (block ∷ []) (g .gave) (one-gave block some);
           same = λ rest none. rw (append-assoc (g .read) (block ∷ []) rest) (next-run Stands.More (block ∷ rest) e (λ h. let z : _≡_ {A = ℕ} 0 1 = cc in absurd (omega arith)) ∙ rw (last, left, cars));
         }
 
@@ -105,6 +126,7 @@ module _ {s : Car} {bytes : List ℕ} {k : ℕ} {i : Input} {window : List ℕ} 
         record {
           text = g .text ++ here .text;
           read = g .read;
+          gave = g .gave;
           same = λ rest none. rw (none last) (next-run Stands.More [] e (λ h. refl) ∙ rw (last, left, cars));
         }
 
@@ -118,6 +140,7 @@ module _ {s : Car} {bytes : List ℕ} {k : ℕ} {i : Input} {window : List ℕ} 
         let none : r .filled ≡ 0 = ap (λ (z : Input). z .filled) q in
         record {
           blocks = g .read ++ [];
+          gave = more-gave (g .read) [] (g .gave) none-gave;
           runs = suc k;
           end = after format TEXT-BYTES (suc k) (serving false s bytes (g .read ++ []));
           same = refl;
@@ -132,6 +155,7 @@ module _ {s : Car} {bytes : List ℕ} {k : ℕ} {i : Input} {window : List ℕ} 
     unfolding onBy
     stops-ended e h left = record {
       blocks = g .read ++ [];
+      gave = more-gave (g .read) [] (g .gave) none-gave;
       runs = suc k;
       end = onBy Stands.Ended here (g .text) (serving (i .last) (car t m) (take (i .filled) window) []);
       same = next-run Stands.Ended [] e (λ _. refl);
@@ -154,7 +178,7 @@ module _ {s : Car} {bytes : List ℕ} {k : ℕ} {i : Input} {window : List ℕ} 
     by-follows (Follows.unwritten q) = no-more-runs (ap (λ (z : Input). z .runs) q) (stops-unwritten r window' (p .table) (p .whole) q)
     by-follows (Follows.ended e q left) = no-more-runs (ap (λ (z : Input). z .runs) q) (stops-ended r window' (p .table) (p .whole) e (p .fits) left)
     by-follows (Follows.full e q left) = on-again (ap (λ (z : Input). z .runs) q) (goes-full r window' (p .table) (p .whole) e q left)
-    by-follows (Follows.more e q block some left) = on-again (ap (λ (z : Input). z .runs) q) (goes-more r window' (p .table) (p .whole) block e q left)
+    by-follows (Follows.more e q block some left) = on-again (ap (λ (z : Input). z .runs) q) (goes-more r window' (p .table) (p .whole) block some e q left)
     by-follows (Follows.no-more e q left) = on-again (ap (λ (z : Input). z .runs) q) (goes-last r window' (p .table) (p .whole) e q left)
 
 -- a turn from where the loop stands
@@ -172,6 +196,7 @@ loop-ends {s} {bytes} {turns} {i} {window} {t} {m} l none = go (i .runs) refl
         let g = l .goes e in
         record {
           blocks = g .read ++ [];
+          gave = more-gave (g .read) [] (g .gave) none-gave;
           runs = l .k;
           end = progress (g .text) (serving (i .last) (car t m) (take (i .filled) window) []) false;
           same = g .same [] (λ _. refl);
@@ -187,6 +212,7 @@ pub starts-unwritten : {s : Car} {bytes window : List ℕ} {t : List Float} {m :
 unfolding after
 starts-unwritten {s} {bytes} e = record {
   blocks = [];
+  gave = none-gave;
   runs = 0;
   end = progress [] (serving false s bytes []) false;
   same = refl;

@@ -3,8 +3,10 @@ use Prim.Native.Nat.{ℕ, zero, suc, _≤_}
 use mathlib.Core.Bool.{Bool, true, false}
 use mathlib.Core.List.{List, [], _++_}
 use mathlib.Core.Path.{_≡_}
+use lib.Dec.{ltb}
 use lib.Ieee.{Float, Format}
-use lib.ListN.{take, drop}
+use lib.ListN.{length, take, drop}
+use Rattle.lists.specs.All.{all}
 use Rattle.lists.specs.Pick.{pick}
 use Rattle.scenario.specs.Format.{format}
 use Rattle.turns.specs.Car.{Car}
@@ -51,9 +53,14 @@ pub data Stops (p : Progress) (runs r : ℕ) (window : List ℕ) : Type 0 where
   ended : p .ended ≡ true → take r window ≡ p .at .window → Stops p runs r window
   used-up : runs ≡ RUNS → take r window ≡ p .at .window → Stops p runs r window
 
+-- a block that a read gave has a byte at least: a read that gives none is the end of the input
+abbrev pub given : List ℕ → Bool
+given b = ltb 0 (length b)
+
 -- The program went on from a car and the bytes of a window: there are blocks, those that were read, over which so many runs leave it so.
 pub record Serves (s : Car) (bytes : List ℕ) (r : ℕ) (window : List ℕ) (t : List Float) (m : List ℕ) : Type 0 where
   pub blocks : List (List ℕ)
+  pub gave : all given blocks ≡ true
   pub runs : ℕ
   pub end : Progress
   pub same : after format TEXT-BYTES runs (serving false s bytes blocks) ≡ end
