@@ -1,6 +1,6 @@
 -- What the loop of the program prints is what `served` says, and in the end what document 01 says of the bytes that were read. In order: runs after runs; a program that has ended; the text of k runs; the whole program. Assumes nothing.
-use Prim.Native.Nat.{ℕ, zero, suc, _+_, _<_}
-use mathlib.Core.Bool.{Bool, true, false}
+use Prim.Native.Nat.{ℕ, zero, suc, _+_}
+use mathlib.Core.Bool.{true, false}
 use mathlib.Core.List.{List, [], _++_, append-assoc, append-nil}
 use mathlib.Core.Path.{_≡_, refl, sym, ap, _∙_}
 use native.Mathlib.Omega.{arith}
@@ -15,7 +15,8 @@ use Rattle.session.specs.Program.{startCar, printed}
 use Rattle.session.specs.Runs.{Ran, runOf}
 use Rattle.session.specs.Served.{joined, Serving, pulled, servedBy, served, program}
 use Rattle.session.proofs.Windows.{runner-prints}
-use Rattle.console.specs.Serves.{Progress, progress, serving, onBy, on, after, Serves}
+use Rattle.console.specs.Progress.{Progress, progress, serving, onBy, on, after}
+use Rattle.console.specs.Serves.{Serves}
 
 module _ (f : Format) (room : ℕ) where
   -- k runs more

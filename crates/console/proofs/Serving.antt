@@ -1,5 +1,5 @@
 -- Laws on the program's loop. In order: blocks that were read; what a run more makes of the car and of the blocks; where the loop stands; it starts; a turn; its end. Assumes nothing.
-use Prim.Native.Nat.{ℕ, zero, suc, _+_, _≤_, _<_}
+use Prim.Native.Nat.{ℕ, suc, _+_, _≤_, _<_}
 use mathlib.Core.Bool.{Bool, true, false}
 use mathlib.Core.List.{List, [], _∷_, _++_, append-assoc}
 use mathlib.Core.Path.{_≡_, refl, sym, ap, _∙_}
@@ -20,7 +20,8 @@ use Rattle.session.proofs.Windows.{run-goes}
 use Rattle.console.specs.declared.Input.{Input}
 use Rattle.console.specs.Reading.{input}
 use Rattle.console.specs.Turning.{Follows, Turned}
-use Rattle.console.specs.Serves.{Progress, progress, serving, onBy, on, after, RUNS, Stops, given, Serves}
+use Rattle.console.specs.Progress.{Progress, progress, serving, onBy, on, after}
+use Rattle.console.specs.Serves.{RUNS, Stops, given, Serves}
 
 -- ---- blocks that were read
 none-gave : all given [] ≡ true

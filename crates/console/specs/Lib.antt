@@ -1,4 +1,5 @@
 pub mod Reading
 pub mod Writing
 pub mod Turning
+pub mod Progress
 pub mod Serves

@@ -1,5 +1,6 @@
-// The scenario program between standard input and standard output. What is printed is proved of the functions of `session`, on slices; here bytes
-// are read and text is written. A stream of any length runs in the same memory.
+// The scenario program between standard input and standard output. The kit's contracts tell neither which bytes arrive nor what was written. Those here
+// say that the program went as `session` defines it over some blocks, those that were read, and that only its own texts are handed to the write. A stream
+// of any length runs in the same memory.
 use libc::STDIN_FILENO;
 use libc::STDOUT_FILENO;
 use session::Stands;
@@ -28,6 +29,7 @@ struct Input {
     runs: bool,
 }
 
+// The three in one.
 fn standing(filled: usize, last: bool, runs: bool) -> Input
     ensures { λ r. ⌜ r ≡ input filled last runs ⌝ }
 {

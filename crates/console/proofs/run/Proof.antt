@@ -1,6 +1,5 @@
 -- `console::run` meets its contract: the first line is what is handed to the write, and the turns go on from the table that the program starts with. Assumes nothing.
 use borrow.Author.Needs.{needs}
-use mathlib.Core.Path.{refl}
 use Rattle.console.specs.Writing.{Printed}
 use Rattle.console.proofs.Turning.{text-at}
 use Rattle.console.proofs.Serving.{starts-unwritten}

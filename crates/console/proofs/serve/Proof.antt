@@ -1,5 +1,4 @@
 -- `console::serve` meets its contract: each turn is a run of `served` more, over what was read. Assumes nothing.
-use borrow.Author.Needs.{needs}
 use native.Mathlib.Omega.{arith}
 use lib.ListN.{take}
 use Rattle.turns.specs.Car.{car}
