@@ -36,11 +36,18 @@ fn standing(filled: usize, last: bool, runs: bool) -> Input
     Input { filled, last, runs }
 }
 
-// Writes the first bytes of a buffer, which are what the program prints next, and answers whether it could.
+// Writes a text of the program's, and answers whether it could. All that is written goes through here.
+fn print(text: &[u8]) -> bool
+    requires { ⌜ Printed (now text) ⌝ }
+{
+    io::write_all(STDOUT_FILENO, text)
+}
+
+// Writes the first bytes of a buffer, which are such a text.
 fn write_first(out: &[u8], at: usize) -> bool
     requires { ⌜ (at ≤ length (now out)) × Printed (take at (now out)) ⌝ }
 {
-    io::write_all(STDOUT_FILENO, &out[..at])
+    print(&out[..at])
 }
 
 // The same, where the buffer's length is known.

@@ -10,7 +10,7 @@ use Rattle.console.proofs.turn.Tie as tie
 write-text-requires : tie.Need-write-text-requires
 write-text-requires c κs =
     let step = c .before .step in
-    (step .ensures .2, Printed.of-run _ _ _ (text-at (step .ensures .0 .puts)))
+    (omega (arith, step .ensures .1, step .ensures .2), Printed.of-run _ _ _ (text-at (step .ensures .0 .puts)))
 
 returns : tie.Need-returns
 returns c =

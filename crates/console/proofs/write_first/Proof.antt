@@ -1,12 +1,12 @@
--- `console::write_first` is safe. Assumes nothing.
+-- `console::write_first` is safe, and hands on the text that it was asked to write. Assumes nothing.
 use borrow.Author.Needs.{needs}
 use mathlib.Core.Path.{sym}
 use lib.Seq.{length-take-le}
 use Rattle.console.proofs.write_first.Statement.{statement}
 use Rattle.console.proofs.write_first.Tie as tie
 
-slice-aggregate-write-all : tie.Need-slice-aggregate-write-all
-slice-aggregate-write-all c = sym (length-take-le _ _ (c .before .before .pre .0))
+slice-aggregate-print : tie.Need-slice-aggregate-print
+slice-aggregate-print c = sym (length-take-le _ _ (c .before .before .pre .0))
 
 pub write-first-spec : {M : Type 1} → statement M
-write-first-spec = tie.close (tie.spec slice-aggregate-write-all (λ c κs. tt) (λ c. search needs))
+write-first-spec = tie.close (tie.spec slice-aggregate-print (λ c κs. search needs) (λ c. search needs))
