@@ -49,13 +49,8 @@ module _ (f : Format) where
   pub transform-held : (pose : Pose) (w : Wheel) → WheelHeld f w → WheelHeld f (updateWheelTransform f pose w)
   unfolding updateWheelTransform transformPoint centreOf
   transform-held pose w h = record {
-    normal = h .normal;
-    point = h .point;
-    length = h .length;
-    hard = added-held f _ _;
-    centre = added-held f _ _;
-    direction = rotated-held f _ _;
-    axle = rotated-held f _ _;
+    info = record { normal = h .info .normal; point = h .info .point; length = h .info .length; hard = added-held f _ _ };
+    place = record { centre = added-held f _ _; direction = rotated-held f _ _; axle = rotated-held f _ _ };
     settings = h .settings;
     controls = h .controls;
     approach = h .approach;
@@ -75,13 +70,8 @@ module _ (f : Format) where
   met-held : (w : Wheel) (normal point : Vector) (length : Float) (approach : Approach) → VectorHeld f normal → VectorHeld f point → T (fits f length) → Each f (approachList approach) → WheelHeld f w
       → WheelHeld f (withApproach (withInfo w (record { normal = normal; point = point; length = length; hard = w .info .hard })) approach)
   met-held w normal point length approach n p l a h = record {
-    normal = n;
-    point = p;
-    length = l;
-    hard = h .hard;
-    centre = h .centre;
-    direction = h .direction;
-    axle = h .axle;
+    info = record { normal = n; point = p; length = l; hard = h .info .hard };
+    place = h .place;
     settings = h .settings;
     controls = h .controls;
     approach = a;
@@ -98,7 +88,7 @@ module _ (f : Format) where
 
   miss-held : (w : Wheel) → WheelHeld f w → WheelHeld f (missOf f w)
   unfolding missOf
-  miss-held w h = met-held w _ _ _ _ (negated-held f _ (h .direction)) (added-held f _ _) (h .settings .1 .1 .1 .1 .1 .1 .1 .1 .1 .0) (zero-fits, (one-fits f, tt)) h
+  miss-held w h = met-held w _ _ _ _ (negated-held f _ (h .place .direction)) (added-held f _ _) (h .settings .1 .1 .1 .1 .1 .1 .1 .1 .1 .0) (zero-fits, (one-fits f, tt)) h
 
   normal-held : (time : Float) (normal direction : Vector) → VectorHeld f normal → VectorHeld f direction → VectorHeld f (contactNormal time normal direction)
   unfolding contactNormal
@@ -111,23 +101,18 @@ module _ (f : Format) where
   pub cast-held : (tuning : WheelTuning) (chassis : Body) (answer : RayAnswer) (w : Wheel) → Each f (normalsIn answer) → WheelHeld f w → WheelHeld f (rayCast f tuning chassis answer w)
   unfolding rayCast normalsIn
   cast-held tuning chassis Nothing w n h = miss-held w h
-  cast-held tuning chassis (Hit time normal named) w n h = hit-held tuning chassis time _ w (normal-held time normal _ (vector-first f normal [] n) (h .direction)) h
+  cast-held tuning chassis (Hit time normal named) w n h = hit-held tuning chassis time _ w (normal-held time normal _ (vector-first f normal [] n) (h .place .direction)) h
   cast-held tuning chassis (HitUp time normal upward named) w n h =
       let own = vector-first f normal (vectorList upward) n in
       let above = vector-first f upward [] (n .1 .1 .1) in
-      hit-held tuning chassis time _ w (normal-held time _ _ (upward-held time normal upward own above) (h .direction)) h
+      hit-held tuning chassis time _ w (normal-held time _ _ (upward-held time normal upward own above) (h .place .direction)) h
 
   -- ---- rules 6 to 8
   -- a wheel with another motion
   moving-held : (w : Wheel) (motion : Motion) → Each f (motionList motion) → WheelHeld f w → WheelHeld f (withMotion w motion)
   moving-held w motion m h = record {
-    normal = h .normal;
-    point = h .point;
-    length = h .length;
-    hard = h .hard;
-    centre = h .centre;
-    direction = h .direction;
-    axle = h .axle;
+    info = h .info;
+    place = h .place;
     settings = h .settings;
     controls = h .controls;
     approach = h .approach;
@@ -198,13 +183,8 @@ module _ (f : Format) where
   -- ---- a new wheel, and other controls
   pub controlled-held : (w : Wheel) (c : Controls) → Each f (controlsList c) → WheelHeld f w → WheelHeld f (withControls w c)
   controlled-held w c k h = record {
-    normal = h .normal;
-    point = h .point;
-    length = h .length;
-    hard = h .hard;
-    centre = h .centre;
-    direction = h .direction;
-    axle = h .axle;
+    info = h .info;
+    place = h .place;
     settings = h .settings;
     controls = k;
     approach = h .approach;
@@ -223,13 +203,8 @@ module _ (f : Format) where
       let towards = vector-first f (s .direction) (vectorList (s .axle) ++ (s .rest ∷ s .radius ∷ tuningList (s .tuning))) (k .1 .1 .1) in
       let along = vector-first f (s .axle) (s .rest ∷ s .radius ∷ tuningList (s .tuning)) (k .1 .1 .1 .1 .1 .1) in
       record {
-        normal = h .normal;
-        point = h .point;
-        length = h .length;
-        hard = h .hard;
-        centre = record { x = z; y = z; z = z };
-        direction = towards;
-        axle = along;
+        info = h .info;
+        place = record { centre = record { x = z; y = z; z = z }; direction = towards; axle = along };
         settings = k;
         controls = (z, (z, (z, (z, (z, (one-fits f, tt))))));
         approach = h .approach;

@@ -12,6 +12,8 @@ use Rattle.vector.specs.Arithmetic.{addV, negV, rotateV}
 use Rattle.table.specs.Layout as at
 use Rattle.table.specs.Rows.{numberAt, vectorList, infoList, placeList, settingsList, controlsList, approachList, motionList, vectorAt, rotationAt, infoAt, placeAt, settingsAt, tuningAt, controlsAt, approachAt, motionAt, wheelOf, rowOf, rotationList, inertiaList, inertiaAt, chassisOf, chassisList}
 use Rattle.body.specs.declared.Chassis.{Chassis}
+use Rattle.wheel.specs.declared.RayCastInfo.{RayCastInfo}
+use Rattle.wheel.specs.declared.Place.{Place}
 use Rattle.wheel.specs.declared.Wheel.{Wheel}
 use Rattle.demands.proofs.Each.{Each, each-append, number-fits}
 
@@ -39,14 +41,20 @@ module _ (f : Format) where
   chosen-held false u v p q = q
 
 -- ---- a wheel
+pub record InfoHeld (f : Format) (i : RayCastInfo) : Type 0 where
+  pub normal : VectorHeld f (i .normal)
+  pub point : VectorHeld f (i .point)
+  pub length : T (fits f (i .length))
+  pub hard : VectorHeld f (i .hard)
+
+pub record PlaceHeld (f : Format) (p : Place) : Type 0 where
+  pub centre : VectorHeld f (p .centre)
+  pub direction : VectorHeld f (p .direction)
+  pub axle : VectorHeld f (p .axle)
+
 pub record WheelHeld (f : Format) (w : Wheel) : Type 0 where
-  pub normal : VectorHeld f (w .info .normal)
-  pub point : VectorHeld f (w .info .point)
-  pub length : T (fits f (w .info .length))
-  pub hard : VectorHeld f (w .info .hard)
-  pub centre : VectorHeld f (w .place .centre)
-  pub direction : VectorHeld f (w .place .direction)
-  pub axle : VectorHeld f (w .place .axle)
+  pub info : InfoHeld f (w .info)
+  pub place : PlaceHeld f (w .place)
   pub settings : Each f (settingsList (w .settings))
   pub controls : Each f (controlsList (w .controls))
   pub approach : Each f (approachList (w .approach))
@@ -68,15 +76,15 @@ module _ (f : Format) where
   pub behind : (v : Vector) (l : List Float) → VectorHeld f v → Each f l → Each f (vectorList v ++ l)
   behind v l p q = (p .x, (p .y, (p .z, q)))
 
-  info-held : (w : Wheel) → WheelHeld f w → Each f (infoList (w .info))
-  info-held w h =
-      let tail = w .info .length ∷ vectorList (w .info .hard) in
-      behind (w .info .normal) (vectorList (w .info .point) ++ tail) (h .normal) (behind (w .info .point) tail (h .point) (h .length, behind (w .info .hard) [] (h .hard) tt))
+  info-held : (i : RayCastInfo) → InfoHeld f i → Each f (infoList i)
+  info-held i h =
+      let tail = i .length ∷ vectorList (i .hard) in
+      behind (i .normal) (vectorList (i .point) ++ tail) (h .normal) (behind (i .point) tail (h .point) (h .length, behind (i .hard) [] (h .hard) tt))
 
-  place-held : (w : Wheel) → WheelHeld f w → Each f (placeList (w .place))
-  place-held w h =
-      let tail = vectorList (w .place .axle) in
-      behind (w .place .centre) (vectorList (w .place .direction) ++ tail) (h .centre) (behind (w .place .direction) tail (h .direction) (behind (w .place .axle) [] (h .axle) tt))
+  place-held : (p : Place) → PlaceHeld f p → Each f (placeList p)
+  place-held p h =
+      let tail = vectorList (p .axle) in
+      behind (p .centre) (vectorList (p .direction) ++ tail) (h .centre) (behind (p .direction) tail (h .direction) (behind (p .axle) [] (h .axle) tt))
 
   pub row-held : (w : Wheel) → WheelHeld f w → Each f (rowOf w)
   unfolding rowOf
@@ -85,8 +93,8 @@ module _ (f : Format) where
       let approach = approachList (w .approach) ++ motion in
       let controls = controlsList (w .controls) ++ approach in
       let settings = settingsList (w .settings) ++ controls in
-      each-append f (infoList (w .info)) (placeList (w .place) ++ settings) (info-held w h)
-      (each-append f (placeList (w .place)) settings (place-held w h)
+      each-append f (infoList (w .info)) (placeList (w .place) ++ settings) (info-held (w .info) (h .info))
+      (each-append f (placeList (w .place)) settings (place-held (w .place) (h .place))
       (each-append f (settingsList (w .settings)) controls (h .settings)
       (each-append f (controlsList (w .controls)) approach (h .controls) (each-append f (approachList (w .approach)) motion (h .approach) (h .motion)))))
 
@@ -111,13 +119,13 @@ module _ (f : Format) where
     pub wheel-of-held : WheelHeld f (wheelOf l)
     unfolding listed wheelOf infoAt placeAt settingsAt tuningAt controlsAt approachAt motionAt vectorAt rotationAt
     wheel-of-held = record {
-      normal = vector-held (at.INFO-AT + at.NORMAL);
-      point = vector-held (at.INFO-AT + at.POINT);
-      length = number-fits f l (at.INFO-AT + at.LENGTH) h;
-      hard = vector-held (at.INFO-AT + at.HARD);
-      centre = vector-held (at.PLACE-AT + at.CENTRE);
-      direction = vector-held (at.PLACE-AT + at.WORLD-DIRECTION);
-      axle = vector-held (at.PLACE-AT + at.WORLD-AXLE);
+      info = record {
+        normal = vector-held (at.INFO-AT + at.NORMAL);
+        point = vector-held (at.INFO-AT + at.POINT);
+        length = number-fits f l (at.INFO-AT + at.LENGTH) h;
+        hard = vector-held (at.INFO-AT + at.HARD);
+      };
+      place = record { centre = vector-held (at.PLACE-AT + at.CENTRE); direction = vector-held (at.PLACE-AT + at.WORLD-DIRECTION); axle = vector-held (at.PLACE-AT + at.WORLD-AXLE) };
       settings = numbers-held at.SETTINGS-AT at.SETTINGS;
       controls = numbers-held at.CONTROLS-AT at.CONTROLS;
       approach = numbers-held at.APPROACH-AT at.APPROACH;
