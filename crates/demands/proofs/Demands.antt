@@ -1,17 +1,19 @@
--- The three demands, as theorems over the definitions of the six calls: setUp, addWheel, setControls, aimOf, driveOf and readWheel, each in the crate of its call. The demand's own words stand above each.
+-- The three demands, and the change requests that are theorems, over the definitions of the six calls: setUp, addWheel, setControls, aimOf, driveOf and readWheel, each in the crate of its call. The demand's or the
+-- request's own words stand above each.
 -- That a function is its definition, and that it ends for all numbers and every lent table, is each function's contract, proved in its own crate: none has a `requires`. Assumes nothing.
 use Prim.Native.Nat.{ℕ, _<_}
 use mathlib.Core.Bool.{true, false}
 use mathlib.Core.List.{List, _∷_}
 use mathlib.Core.Path.{_≡_, refl, sym, ap, subst, _∙_}
 use borrow.Author.Tests.{eqb-true, eq-eqb}
-use lib.Ieee.{Float, Format, le}
+use lib.Ieee.{Float, Format, lt, le, eq}
 use Rattle.body.specs.declared.Chassis.{Chassis}
 use Rattle.wheel.specs.declared.Settings.{Settings}
 use Rattle.wheel.specs.declared.Controls.{Controls}
 use Rattle.tyre.specs.declared.Friction.{Friction}
 use Rattle.tyre.specs.Grip.{skidOf, rescaledBy}
 use Rattle.tyre.specs.Demand3.{precision, Grips, WithinBrake, leastLimit}
+use Rattle.tyre.specs.MoreBrake.{BrakesNoLess}
 use Rattle.tyre.proofs.Demand3.{not-sliding, sliding}
 use Rattle.table.specs.Layout as at
 use Rattle.table.specs.Rows.{chassisAt}
@@ -33,6 +35,7 @@ use Rattle.demands.specs.Answers.{isOneOf, answers}
 use Rattle.demands.specs.Held.{Held, handsHeld, HandsHeld}
 use Rattle.demands.specs.Update.{Placed, updateOf, updated}
 use Rattle.demands.specs.Impulses.{Step, stepAfter, Accepted, Stepped, Grounded, forwardDemand, sideDemand, gripLimit, forwardImpulse, sideImpulse, skidAt, brakeOf, slidesAt, poweredAt, Alike}
+use Rattle.demands.specs.MoreBrake.{AlikeButForBrake}
 use Rattle.demands.proofs.Marks.{history-from-set-up}
 use Rattle.demands.proofs.Five.{five-of-not-driven, not-five-of-driven}
 use Rattle.demands.proofs.Numbers.{number-among}
@@ -41,6 +44,7 @@ use Rattle.demands.proofs.Updates.{driven-is, aimed-is, update-speed, u
 use Rattle.demands.proofs.Each.{each-of-held, held-of-each}
 use Rattle.demands.proofs.HeldCalls.{call-held, held-from-set-up}
 use Rattle.demands.proofs.Impulses.{forward-rescaled, side-rescaled, forward-admitted, side-admitted, limit-admitted, within-brake, friction-alike}
+use Rattle.demands.proofs.MoreBrake.{demand-no-less, demand-equal, demand-same}
 
 -- ---- Demand 1. "A bad call is answered by a number of document 01": the number that a call answers is that of its refusal list, 0 where no test of the list fails.
 module _ (f : Format) (t : List Float) (m : List ℕ) where
@@ -194,3 +198,18 @@ module _ (f : Format) (lent : State) (up forward : ℕ) (l : List Call) (set-up 
 
   pub history-is-stepped : (r : Frame) (n i : ℕ) → Accepted f (stepAfter f (SetUp up forward ∷ l) lent r n) → i < n → Stepped f (stepAfter f (SetUp up forward ∷ l) lent r n) i
   history-is-stepped r n i z u = record { accepted = z; held = history-is-held; counted = u }
+
+-- ---- Change request 2026-13, "More brake, never less braking." "For an unpowered grounded wheel, with chassis after the springs, hit, ground, number of grounded wheels and own row but for the brake held the same, show
+-- that a greater brake never gives a rolling demand of smaller magnitude, nor one of the opposite sign unless a zero is involved. It speaks of the demand before the slide test, for two accepted steps."
+-- The wheel of `e` is grounded and unpowered as that of `d` is: it has the same hit and the same engine force.
+module _ {f : Format} {d e : Step} {i : ℕ} (g : Grounded f d i) (s : Stepped f e i) (unpowered : poweredAt d i ≡ false) (a : AlikeButForBrake f d e i) where
+  pub more-brake : lt (brakeOf d i) (brakeOf e i) ≡ true → BrakesNoLess f (forwardDemand f d i) (forwardDemand f e i)
+  more-brake h = demand-no-less a g s unpowered h
+
+  -- Equal brakes, both zeros counted equal: each brakes no less than the other, so the two demands have one size, and one sign where they are not zero.
+  pub equal-brake : eq (brakeOf d i) (brakeOf e i) ≡ true → BrakesNoLess f (forwardDemand f d i) (forwardDemand f e i) × BrakesNoLess f (forwardDemand f e i) (forwardDemand f d i)
+  equal-brake h = demand-equal a g s unpowered h
+
+  -- The very same brake: the very same demand, a zero's sign included.
+  pub same-brake : brakeOf d i ≡ brakeOf e i → forwardDemand f d i ≡ forwardDemand f e i
+  same-brake h = demand-same a g s unpowered h

@@ -1,12 +1,13 @@
 -- The impulses of one wheel in an accepted step. In order: its force is not below 0; what an accepted step has tested of wheel i;
 -- its impulses as its demands rescaled, and as those of the wheel alone. Assumes nothing.
 use Prim.Native.Nat.{ℕ, _+_, _≤_, _<_}
-use mathlib.Core.Bool.{Bool, true, false, cond}
+use mathlib.Core.Bool.{Bool, true, false, cond, not}
 use mathlib.Core.List.{List}
 use mathlib.Core.Path.{_≡_, refl, sym, ap, subst, _∙_}
 use native.Mathlib.Omega.{arith}
 use lib.ListN.{getD}
-use lib.Ieee.{Float, Format, nan, le, lt, ne}
+use lib.Dec.{T}
+use lib.Ieee.{Float, Format, nan, neg, le, lt, ne, isNan}
 use Rattle.lists.specs.Pick.{pick}
 use Rattle.lists.proofs.Parts.{getD-part}
 use Rattle.lists.proofs.Picks.{pick-true}
@@ -15,6 +16,7 @@ use Rattle.real.specs.Number.{zero}
 use Rattle.real.specs.Units.{count}
 use Rattle.real.specs.Scalar.{within, notBelowZero}
 use Rattle.real.proofs.NotNegative.{zero-le-not-below-zero}
+use Rattle.real.proofs.Clamping.{not-nan-of-clamp}
 use Rattle.vector.specs.declared.Vector.{Vector}
 use Rattle.vector.specs.Arithmetic.{dotV}
 use Rattle.body.specs.declared.Body.{Body}
@@ -67,17 +69,26 @@ force-not-negative f own kept answer w = either (isGrounded answer) _
     either false x = unfold le in refl
 
 -- ---- wheel i of an accepted step
-abbrev sprungAt : Format → Step → ℕ → Wheel
+abbrev pub sprungAt : Format → Step → ℕ → Wheel
 sprungAt f d i = sprungWheel f (storedWheel d i .settings .tuning) (chassisAt (d .table) .body) (d .frame .answer i) (storedWheel d i)
 
-abbrev bodyIn : Format → Step → Body
+abbrev pub bodyIn : Format → Step → Body
 bodyIn f d = sprung f stored (d .frame) (d .n) (d .table) .chassis .body
 
-abbrev groundIn : Step → ℕ → Ground
+abbrev pub groundIn : Step → ℕ → Ground
 groundIn d i = groundUnder (d .frame .bodies) (d .frame .dynamic) (d .frame .answer i)
 
-abbrev groundedIn : Step → ℕ
+abbrev pub groundedIn : Step → ℕ
 groundedIn d = groundedWheels (d .frame .answer) (d .n)
+
+-- its rolling demand before the brake's clamp, from the chassis after the springs, its ground and the number of grounded wheels
+abbrev pub uncutOf : Format → Body → Ground → ℕ → Wheel → Float
+uncutOf f chassis ground grounded w =
+    let ahead = directionsOf f w .forward in
+    rollingResponse f (dotV f ahead (relativeVelocity f chassis ground (w .info .point))) (denominatorsOf f chassis ground (w .info .point) ahead) grounded
+
+abbrev pub uncutAt : Format → Step → ℕ → Float
+uncutAt f d i = uncutOf f (bodyIn f d) (groundIn d i) (groundedIn d) (sprungAt f d i)
 
 module _ (f : Format) (d : Step) (accepted : Accepted f d) where
   tests : DriveTested f (d .table) (d .whole) (d .frame) (d .n)
@@ -213,21 +224,30 @@ rolled-unpowered : (f : Format) (dt engine brake uncut : Float) → ne engine ze
 unfolding rollingOf
 rolled-unpowered f dt engine brake uncut h = rw h
 
+-- a grounded one's demand is cut to its brake, and what is cut is no NaN
+module _ (f : Format) (d : Step) (i : ℕ) (g : Grounded f d i) (unpowered : poweredAt d i ≡ false) where
+  pub forward-braked : forwardDemand f d i ≡ brakedOf (brakeOf d i) (uncutAt f d i)
+  unfolding rollingDemand
+  forward-braked =
+      forward-is f d i g
+      ∙ ap (λ (c : Controls). rollingOf f (d .frame .dt) (c .engine) (c .brake) (uncutAt f d i)) (sprung-keeps-controls f _ _ _ (storedWheel d i))
+      ∙ rolled-unpowered f (d .frame .dt) (storedWheel d i .controls .engine) (brakeOf d i) (uncutAt f d i) unpowered
+
+  braked-admitted : Admitted f (brakedOf (brakeOf d i) (uncutAt f d i))
+  braked-admitted = subst (Admitted f) forward-braked (forward-admitted f d i g)
+
+  pub uncut-not-nan : T (not (isNan (uncutAt f d i)))
+  unfolding brakedOf
+  uncut-not-nan = not-nan-of-clamp (neg (brakeOf d i)) (brakeOf d i) (uncutAt f d i) (small-of-admitted braked-admitted .fine)
+
 module _ (f : Format) (d : Step) (i : ℕ) (s : Stepped f d i) (unpowered : poweredAt d i ≡ false) where
   grounded-within-brake : groundedAt (d .frame .answer) i ≡ true → WithinBrake f (brakeOf d i) (forwardImpulse f d i)
-  unfolding rollingDemand
   grounded-within-brake contact =
       let g : Grounded f d i = record { stepped = s; contact = contact } in
-      let w = sprungAt f d i in
-      let ahead = directionsOf f w .forward in
-      let uncut = rollingResponse f (dotV f ahead (relativeVelocity f (bodyIn f d) (groundIn d i) (w .info .point))) (denominatorsOf f (bodyIn f d) (groundIn d i) (w .info .point) ahead) (groundedIn d) in
-      let braked : forwardDemand f d i ≡ brakedOf (brakeOf d i) uncut =
-      forward-is f d i g
-      ∙ ap (λ (c : Controls). rollingOf f (d .frame .dt) (c .engine) (c .brake) uncut) (sprung-keeps-controls f _ _ _ (storedWheel d i))
-      ∙ rolled-unpowered f (d .frame .dt) (storedWheel d i .controls .engine) (brakeOf d i) uncut unpowered in
+      let braked = forward-braked f d i g unpowered in
       let within =
-      unpowered-within f (brakeOf d i) uncut (sideDemand f d i) (gripLimit f d i) (brake-of-stepped s)
-      (uncut-fits f _ _ (groundedIn d)) (subst (Admitted f) braked (forward-admitted f d i g)) (limit-at-least f d i g) in
+      unpowered-within f (brakeOf d i) (uncutAt f d i) (sideDemand f d i) (gripLimit f d i) (brake-of-stepped s)
+      (uncut-fits f _ _ (groundedIn d)) (braked-admitted f d i g unpowered) (limit-at-least f d i g) in
       subst (WithinBrake f (brakeOf d i)) (sym (forward-rescaled f d i g))
       (subst (λ (x : Float). WithinBrake f (brakeOf d i) (rescaledBy f (skidOf f x (sideDemand f d i) (gripLimit f d i)) x)) (sym braked) within)
 

@@ -7,6 +7,7 @@ pub mod Marks
 pub mod Five
 pub mod Passed
 pub mod Impulses
+pub mod MoreBrake
 pub mod Numbers
 pub mod Each
 pub mod HeldWheel

@@ -3,4 +3,5 @@ pub mod Answers
 pub mod Held
 pub mod Update
 pub mod Impulses
+pub mod MoreBrake
 pub mod Same

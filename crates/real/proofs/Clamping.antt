@@ -1,20 +1,20 @@
 -- The clamp of a value v to ± a bound b that is not negative, in counts. `Signed` is a count with a sign that a zero may have lost: each value has its own (own-signed), and one that passes `0 <= x` has the
--- sign + (signed-of-le); their order is that of sign and count (lt-signed). The laws of the clamp: the result has v's sign, and is as large as the smaller of v and b, an infinite v counting as b
--- (clamp-signed, clamp-count); so it is at most the bound (clamp-le), keeps v's sign unless it is zero (clamp-sign), is a finite value of the format (clamp-finite, clamp-fits), and does not shrink as the
+-- sign + (signed-of-le); their order is that of sign and count (lt-signed), so the smaller of two that are not negative has no more units (count-le-of-le), and of two that are equal each has as many (count-eq-of-eq).
+-- The laws of the clamp: the result has v's sign, and is as large as the smaller of v and b, an infinite v counting as b (clamp-signed, clamp-count); so it is at most the bound (clamp-le), keeps v's sign unless it is zero (clamp-sign), is a finite value of the format (clamp-finite, clamp-fits), and does not shrink as the
 -- bound grows (clamp-mono). A NaN stays one (not-nan-of-clamp). Assumes nothing.
 use mathlib.Core.Path.{_≡_, refl, sym, ap, _∙_, subst}
 use Prim.Native.Nat.{ℕ, zero, suc, _≤_, _<_, min, zero-le}
 use native.Mathlib.Nat.{le-refl, le-trans, le-of-eq, le-of-lt, lt-irrefl, zero-add, add-zero, zero-lt-suc, min-le-right, min-eq-left, min-eq-right}
 use native.Mathlib.Omega.{arith}
-use mathlib.Core.Bool.{Bool, true, false, not, cond}
-use lib.Dec.{T, ltb, ltb→lt, nltb→le, leb·suc-zero}
-use lib.Ieee.{Float, nan, inf, fin, Format, below, isNan, neg, lt, le, fits}
-use lib.Ieee.Fits.{cond-fits}
+use mathlib.Core.Bool.{Bool, true, false, not, cond, true≢false}
+use lib.Dec.{T, ltb, eqb, ltb→lt, nltb→le, eqb→eq, leb·suc-zero}
+use lib.Ieee.{Float, nan, inf, fin, Format, below, isNan, neg, lt, le, eq, fits}
+use lib.Ieee.Fits.{cond-fits, and-l}
 use lib.Ieee.Scale.{finite}
 use Rattle.real.specs.Number.{zero as nought}
 use Rattle.real.specs.Scalar.{raisedOf, loweredOf, clampOf}
 use Rattle.real.specs.Units.{count, minus?}
-use Rattle.real.proofs.SignedCounts.{Counted, count-of, finite-of, sign-of, neg-counted, own-count, zero-counted, lt-counts, atMost, le-counts, at-most-zero}
+use Rattle.real.proofs.SignedCounts.{Counted, count-of, finite-of, sign-of, neg-counted, own-count, zero-counted, lt-counts, eq-counts, atMost, le-counts, at-most-plus, at-most-zero}
 
 -- z has u units, and the sign s unless it is zero
 pub record Signed (f : Format) (z : Float) (s : Bool) (u : ℕ) : Type 0 where
@@ -59,6 +59,18 @@ below-kept s s' t t' a b h k = first a h ∙ second b k
 
 pub lt-signed : {f : Format} {x y : Float} {s t : Bool} {a b : ℕ} → Signed f x s a → Signed f y t b → lt x y ≡ below s a t b
 lt-signed {s = s} {t} {a} {b} h k = lt-counts (h .counted) (k .counted) ∙ below-kept (h .sign) s (k .sign) t a b (h .kept) (k .kept)
+
+pub count-le-of-le : {f : Format} {x y : Float} {a b : ℕ} → Signed f x false a → Signed f y false b → le x y ≡ true → a ≤ b
+count-le-of-le {a = a} {b} h k t = by-signs (h .sign) (k .sign) a (h .kept) (sym (le-counts (h .counted) (k .counted)) ∙ t)
+  where
+    by-signs : (s t : Bool) (a : ℕ) → (0 < a → s ≡ false) → atMost s a t b ≡ true → a ≤ b
+    by-signs s t zero z q = zero-le
+    by-signs true t (suc a) z q = absurd (true≢false (z (zero-lt-suc a)))
+    by-signs false true (suc a) z q = rw (at-most-zero (suc a) b q .0) zero-le
+    by-signs false false (suc a) z q = at-most-plus (suc a) b q
+
+pub count-eq-of-eq : {f : Format} {x y : Float} {s t : Bool} {a b : ℕ} → Signed f x s a → Signed f y t b → eq x y ≡ true → a ≡ b
+count-eq-of-eq {a = a} {b} h k t = eqb→eq a b (and-l (eqb a b) _ (subst T (sym (sym (eq-counts (h .counted) (k .counted)) ∙ t)) tt))
 
 -- ---- the clamp
 

@@ -1,4 +1,5 @@
 pub mod Demand3
+pub mod MoreBrake
 pub mod Brake
 pub mod GripCircle
 pub mod Chain

@@ -2,3 +2,4 @@ pub mod Told
 pub mod Drives
 pub mod Refused
 pub mod Applied
+pub mod Carts

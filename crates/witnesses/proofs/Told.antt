@@ -1,24 +1,47 @@
--- The kernel runs both histories: their calls are the words of the streams that the oracle was given, and each call answers what the oracle printed. Assumes nothing.
+-- The kernel runs the histories: their calls are the words of the streams that the oracle was given, and each call answers what the oracle printed. Assumes nothing.
+use Prim.Native.Nat.{ℕ}
+use mathlib.Core.List.{List}
 use mathlib.Core.Path.{_≡_, refl}
 use lib.Ieee.{binary32}
-use Rattle.demands.specs.History.{SetUp, run}
+use Rattle.real.specs.Number.{zero}
+use Rattle.marked.specs.Numbers.{four}
+use Rattle.demands.specs.History.{Call, SetUp, run}
+use Rattle.witnesses.specs.Car.{sixteen, thirty-two}
 use Rattle.witnesses.specs.Calls.{lent, calls, otherCalls}
+use Rattle.witnesses.specs.Carts.{cartCalls, ladenCalls}
 use Rattle.witnesses.specs.Stream.{streamWords, answersTo}
-use Rattle.witnesses.specs.Oracle.{asked, told, otherAsked, otherTold}
+use Rattle.witnesses.specs.Oracle.{asked, told, otherAsked, otherTold, cartAsked, ladenAsked, cartToldFour, cartToldSixteen, ladenToldZero, ladenToldFour, ladenToldThirtyTwo}
 use Rattle.witnesses.specs.Opened.{opened}
 
-pub calls-are-asked : streamWords calls ≡ asked
-unfolding opened
-calls-are-asked = refl
+pub record AsTold (l : List Call) (asked told : List (List ℕ)) : Type 0 where
+  pub words : streamWords l ≡ asked
+  pub answers : answersTo l (run binary32 (SetUp 1 0) lent) ≡ told
 
-pub answers-are-told : answersTo calls (run binary32 (SetUp 1 0) lent) ≡ told
+pub calls-as-told : AsTold calls asked told
 unfolding opened
-answers-are-told = refl
+calls-as-told = record { words = refl; answers = refl }
 
-pub other-calls-are-asked : streamWords otherCalls ≡ otherAsked
+pub other-calls-as-told : AsTold otherCalls otherAsked otherTold
 unfolding opened
-other-calls-are-asked = refl
+other-calls-as-told = record { words = refl; answers = refl }
 
-pub other-answers-are-told : answersTo otherCalls (run binary32 (SetUp 1 0) lent) ≡ otherTold
+-- ---- the carts, each brake by its pattern
+pub cart-four-as-told : AsTold (cartCalls four) (cartAsked 0x40800000) cartToldFour
 unfolding opened
-other-answers-are-told = refl
+cart-four-as-told = record { words = refl; answers = refl }
+
+pub cart-sixteen-as-told : AsTold (cartCalls sixteen) (cartAsked 0x41800000) cartToldSixteen
+unfolding opened
+cart-sixteen-as-told = record { words = refl; answers = refl }
+
+pub laden-zero-as-told : AsTold (ladenCalls zero) (ladenAsked 0) ladenToldZero
+unfolding opened
+laden-zero-as-told = record { words = refl; answers = refl }
+
+pub laden-four-as-told : AsTold (ladenCalls four) (ladenAsked 0x40800000) ladenToldFour
+unfolding opened
+laden-four-as-told = record { words = refl; answers = refl }
+
+pub laden-thirty-two-as-told : AsTold (ladenCalls thirty-two) (ladenAsked 0x42000000) ladenToldThirtyTwo
+unfolding opened
+laden-thirty-two-as-told = record { words = refl; answers = refl }

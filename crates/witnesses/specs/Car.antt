@@ -91,19 +91,22 @@ flattened = hanging two one zero sixteen one
 abbrev pub pressed : Float → Float → Controls
 pressed engine brake = record { engine = engine; brake = brake; steering = straight }
 
--- ---- the chassis, of mass 2, with this velocity, and with this part of it along the forward axis
-abbrev pub moving : Vector → Chassis
-moving velocity = record {
+-- ---- the chassis, of mass 2, with this velocity and this angular velocity; with none of the latter; and with this part of the velocity along the forward axis
+abbrev pub turning : Vector → Vector → Chassis
+turning velocity angular = record {
   pose = record { translation = vector zero three-halves zero; rotation = straight };
   body = record {
     centre = vector zero one zero;
     linvel = velocity;
-    angvel = nowhere;
+    angvel = angular;
     invmass = half;
     inertia = record { xx = half; xy = zero; xz = zero; yy = quarter; yz = zero; zz = quarter };
   };
   effective = vector half half half;
 }
+
+abbrev pub moving : Vector → Chassis
+moving velocity = turning velocity nowhere
 
 abbrev pub rolling : Float → Chassis
 rolling speed = moving (vector speed zero five)

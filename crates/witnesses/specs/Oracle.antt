@@ -1,4 +1,4 @@
--- The two histories as streams, and what the oracle prints for them: the Rust source over the same arithmetic (oracle/). Nothing here was taken from the proved code or the kernel. Definitions only.
+-- The histories as streams, and what the oracle prints for them: the Rust source over the same arithmetic (oracle/). Nothing here was taken from the proved code or the kernel. Definitions only.
 -- A row is a code and its fields, or the answer number and the results, in the order of docs/STREAM.md. tests/witnesses reads this file, runs the oracle on the streams and compares its lines.
 use Prim.Native.Nat.{ℕ}
 use mathlib.Core.List.{List, [], _∷_}
@@ -95,4 +95,74 @@ otherTold =
     ∷ (0 ∷ 0x41500000 ∷ 0x40000000 ∷ 0x3fc00000 ∷ 0x3f800000 ∷ 0 ∷ 0xc0000000 ∷ 0 ∷ 0x40000000 ∷ 0x3fc00000 ∷ 0xbf800000 ∷ 0 ∷ 0xbfc00000 ∷ 0 ∷ 0xc0000000 ∷ 0x3fc00000 ∷ 0xbf800000 ∷ 0 ∷
     0xc0000000 ∷ 0 ∷ [])
     ∷ (5 ∷ [])
+    ∷ []
+
+-- ---- the carts under a brake, which is the word `brake` of the stream
+abbrev pub cartAsked : ℕ → List (List ℕ)
+cartAsked brake =
+    (1 ∷ 0 ∷ 0 ∷ 0x3f800000 ∷ 0 ∷ 0xbf800000 ∷ 0 ∷ 0 ∷ 0 ∷ 0x3f800000 ∷ 0x3f800000 ∷ 0x3f800000 ∷ 0x41800000 ∷ 0x40000000 ∷ 0x40000000 ∷ 0x3f000000 ∷ 0x40800000 ∷ 0x41000000 ∷ 0x44800000 ∷ [])
+    ∷ (2 ∷ 0 ∷ 0 ∷ brake ∷ 0 ∷ 0 ∷ 0 ∷ 0x3f800000 ∷ [])
+    ∷ (3 ∷ 0 ∷ 0x3fc00000 ∷ 0 ∷ 0 ∷ 0 ∷ 0 ∷ 0x3f800000 ∷ 0 ∷ 0x3f800000 ∷ 0 ∷ 0x41400000 ∷ 0 ∷ 0x40a00000 ∷ 0 ∷ 0 ∷ 0 ∷ 0x3f000000 ∷ 0x3f000000 ∷ 0x3f000000 ∷ 0x3f000000 ∷ 0x3f000000 ∷ 0 ∷ 0 ∷ 0x3e800000 ∷ 0 ∷ 0x3e800000 ∷ [])
+    ∷ (4 ∷ 0x3f000000 ∷ 0 ∷ 1 ∷ 1 ∷ 0x3f400000 ∷ 0 ∷ 0x3f800000 ∷ 0 ∷ 0 ∷ [])
+    ∷ (5 ∷ 0 ∷ [])
+    ∷ []
+
+abbrev pub ladenAsked : ℕ → List (List ℕ)
+ladenAsked brake =
+    (1 ∷ 0 ∷ 0 ∷ 0x3f800000 ∷ 0 ∷ 0xbf800000 ∷ 0 ∷ 0 ∷ 0 ∷ 0x3f800000 ∷ 0x3f800000 ∷ 0x3f800000 ∷ 0x41800000 ∷ 0x40000000 ∷ 0x40000000 ∷ 0x3f000000 ∷ 0x40800000 ∷ 0x41000000 ∷ 0x44800000 ∷ [])
+    ∷ (1 ∷ 0x40000000 ∷ 0 ∷ 0xbf800000 ∷ 0 ∷ 0xbf800000 ∷ 0 ∷ 0 ∷ 0 ∷ 0x3f800000 ∷ 0x3f800000 ∷ 0x3f800000 ∷ 0x41800000 ∷ 0x40000000 ∷ 0x40000000 ∷ 0x3f000000 ∷ 0x40800000 ∷ 0x3f800000 ∷ 0x44800000 ∷ [])
+    ∷ (2 ∷ 0 ∷ 0 ∷ brake ∷ 0 ∷ 0 ∷ 0 ∷ 0x3f800000 ∷ [])
+    ∷ (3 ∷ 0 ∷ 0x3fc00000 ∷ 0 ∷ 0 ∷ 0 ∷ 0 ∷ 0x3f800000 ∷ 0 ∷ 0x3f800000 ∷ 0 ∷ 0x41400000 ∷ 0x3f800000 ∷ 0x40a00000 ∷ 0xbf800000 ∷ 0 ∷ 0 ∷ 0x3f000000 ∷ 0x3f000000 ∷ 0x3f000000 ∷ 0x3f000000 ∷ 0x3f000000 ∷ 0 ∷ 0 ∷ 0x3e800000 ∷ 0 ∷ 0x3e800000 ∷ [])
+    ∷ (4 ∷ 0x3f400000 ∷ 0 ∷ 2 ∷ 1 ∷ 0x3f400000 ∷ 0 ∷ 0x3f800000 ∷ 0 ∷ 0 ∷ 0 ∷ [])
+    ∷ (5 ∷ 0 ∷ [])
+    ∷ []
+
+-- In words, with a brake of 4 the wheel pushes by −4 and with 16 by −12; the velocities become (10, 4, about 0.2) and (6, 4, about 0.2).
+abbrev pub cartToldFour : List (List ℕ)
+cartToldFour =
+    (0 ∷ [])
+    ∷ (0 ∷ [])
+    ∷ (0 ∷ 0x41500000 ∷ 0 ∷ 0x3fc00000 ∷ 0x3f800000 ∷ 0 ∷ 0xc0000000 ∷ 0 ∷ [])
+    ∷ (0 ∷ 0x41200000 ∷ 0x40800000 ∷ 0x3e4cccc0 ∷ 0xc06147ae ∷ 0xbf800000 ∷ 0xbf800000 ∷ 0 ∷ [])
+    ∷ (0 ∷ 0 ∷ 0x3fc00000 ∷ 0x3f800000 ∷ 0 ∷ 0xbf800000 ∷ 0 ∷ 0 ∷ 0 ∷ 0x3f800000 ∷ 0x3f000000 ∷ 0x41800000 ∷ 0xc0800000 ∷ 0xc119999a ∷ 0x3f800000 ∷ 0x40980000 ∷ [])
+    ∷ []
+
+abbrev pub cartToldSixteen : List (List ℕ)
+cartToldSixteen =
+    (0 ∷ [])
+    ∷ (0 ∷ [])
+    ∷ (0 ∷ 0x41500000 ∷ 0 ∷ 0x3fc00000 ∷ 0x3f800000 ∷ 0 ∷ 0xc0000000 ∷ 0 ∷ [])
+    ∷ (0 ∷ 0x40c00000 ∷ 0x40800000 ∷ 0x3e4cccc0 ∷ 0xc06147ae ∷ 0xc0400000 ∷ 0xc0400000 ∷ 0 ∷ [])
+    ∷ (0 ∷ 0 ∷ 0x3fc00000 ∷ 0x3f800000 ∷ 0 ∷ 0xbf800000 ∷ 0 ∷ 0 ∷ 0 ∷ 0x3f800000 ∷ 0x3f000000 ∷ 0x41800000 ∷ 0xc1400000 ∷ 0xc119999a ∷ 0x3f800000 ∷ 0x40100000 ∷ [])
+    ∷ []
+
+-- Laden, with no brake it pushes by −0, with 4 by −4 and with 32 by −12. With a brake of −0 the oracle prints −0 where document 01's clamp gives 0 (docs/DIFFERENCES.md), so that history is not here.
+abbrev pub ladenToldZero : List (List ℕ)
+ladenToldZero =
+    (0 ∷ [])
+    ∷ (0 ∷ [])
+    ∷ (0 ∷ [])
+    ∷ (0 ∷ 0x41509d4e ∷ 0 ∷ 0x3fc00000 ∷ 0x3f800000 ∷ 0 ∷ 0xc0000000 ∷ 0 ∷ 0x40000000 ∷ 0x3fc00000 ∷ 0xbf800000 ∷ 0 ∷ 0xc0000000 ∷ 0 ∷ [])
+    ∷ (0 ∷ 0x41400000 ∷ 0x40800000 ∷ 0x3e4cccc0 ∷ 0xc06147ae ∷ 0 ∷ 0 ∷ 0 ∷ [])
+    ∷ (0 ∷ 0 ∷ 0x3fc00000 ∷ 0x3f800000 ∷ 0 ∷ 0xbf800000 ∷ 0 ∷ 0 ∷ 0 ∷ 0x3f800000 ∷ 0x3f000000 ∷ 0x41000000 ∷ 0x80000000 ∷ 0xc119999a ∷ 0x3f800000 ∷ 0x41100000 ∷ [])
+    ∷ []
+
+abbrev pub ladenToldFour : List (List ℕ)
+ladenToldFour =
+    (0 ∷ [])
+    ∷ (0 ∷ [])
+    ∷ (0 ∷ [])
+    ∷ (0 ∷ 0x41509d4e ∷ 0 ∷ 0x3fc00000 ∷ 0x3f800000 ∷ 0 ∷ 0xc0000000 ∷ 0 ∷ 0x40000000 ∷ 0x3fc00000 ∷ 0xbf800000 ∷ 0 ∷ 0xc0000000 ∷ 0 ∷ [])
+    ∷ (0 ∷ 0x41200000 ∷ 0x40800000 ∷ 0x3e4cccc0 ∷ 0xc06147ae ∷ 0xbf800000 ∷ 0xbf800000 ∷ 0 ∷ [])
+    ∷ (0 ∷ 0 ∷ 0x3fc00000 ∷ 0x3f800000 ∷ 0 ∷ 0xbf800000 ∷ 0 ∷ 0 ∷ 0 ∷ 0x3f800000 ∷ 0x3f000000 ∷ 0x41000000 ∷ 0xc0800000 ∷ 0xc119999a ∷ 0x3f800000 ∷ 0x40e40000 ∷ [])
+    ∷ []
+
+abbrev pub ladenToldThirtyTwo : List (List ℕ)
+ladenToldThirtyTwo =
+    (0 ∷ [])
+    ∷ (0 ∷ [])
+    ∷ (0 ∷ [])
+    ∷ (0 ∷ 0x41509d4e ∷ 0 ∷ 0x3fc00000 ∷ 0x3f800000 ∷ 0 ∷ 0xc0000000 ∷ 0 ∷ 0x40000000 ∷ 0x3fc00000 ∷ 0xbf800000 ∷ 0 ∷ 0xc0000000 ∷ 0 ∷ [])
+    ∷ (0 ∷ 0x40c00000 ∷ 0x40800000 ∷ 0x3e4cccc0 ∷ 0xc06147ae ∷ 0xc0400000 ∷ 0xc0400000 ∷ 0 ∷ [])
+    ∷ (0 ∷ 0 ∷ 0x3fc00000 ∷ 0x3f800000 ∷ 0 ∷ 0xbf800000 ∷ 0 ∷ 0 ∷ 0 ∷ 0x3f800000 ∷ 0x3f000000 ∷ 0x41000000 ∷ 0xc1400000 ∷ 0xc119999a ∷ 0x3f800000 ∷ 0x40580000 ∷ [])
     ∷ []

@@ -1,0 +1,75 @@
+-- Change request 2026-13 on small numbers: two carts with one braked wheel each, and their drives under any brake. Definitions only.
+-- The wheel hangs down at (0, 0, 1), 1.5 above flat ground at height 0; without a brake's bound it would be held back by −12. The laden cart has another time step and another kept chassis, and beside the braked wheel one that
+-- meets nothing: its spring pushes by 8 × 3/4 and not by 16 × 1/2, and brings the chassis to the same velocities.
+use Prim.Native.Nat.{_*_}
+use mathlib.Core.Bool.{true}
+use mathlib.Core.List.{List, [], _∷_, _++_}
+use lib.IntN.{pos}
+use lib.ListN.{replicate}
+use lib.Ieee.{Float, fin}
+use Rattle.real.specs.Number.{zero, one, half}
+use Rattle.marked.specs.Numbers.{four, five, eight, twelve, three-quarters}
+use Rattle.body.specs.declared.Chassis.{Chassis}
+use Rattle.wheel.specs.declared.Settings.{Settings}
+use Rattle.wheel.specs.declared.RayAnswer.the-variants.{Nothing}
+use Rattle.wheel.specs.Ray.{answerAt}
+use Rattle.table.specs.Layout as at
+use Rattle.table.specs.Rows.{rowOf, chassisList}
+use Rattle.ground.specs.Frame.{Frame, frame}
+use Rattle.demands.specs.History.{Call, AddWheel, SetControls, Aim, Drive, ReadWheel}
+use Rattle.demands.specs.Impulses.{Step}
+use Rattle.witnesses.specs.Car.{minus-one, minus-four, sixteen, vector, hanging, lifted, pressed, turning, rolling, met}
+use Rattle.witnesses.specs.Calls.{placed}
+
+abbrev pub minus-zero : Float
+minus-zero = fin true 0 (pos 0)
+
+abbrev pub minus-twelve : Float
+minus-twelve = fin true 3 (pos 2)
+
+-- ---- the braked wheel, the chassis of the laden cart, and both frames
+abbrev pub braked : Settings
+braked = hanging zero one one sixteen eight
+
+abbrev pub sinking : Chassis
+sinking = turning (vector twelve one five) (vector minus-one zero zero)
+
+abbrev pub lane : Frame
+lane = frame half [] [] (answerAt (met three-quarters ∷ []))
+
+abbrev pub track : Frame
+track = frame three-quarters [] [] (answerAt (met three-quarters ∷ Nothing ∷ []))
+
+-- ---- the calls after a set-up that lead to the drive, and the drive with a read
+abbrev pub cartAimed : Float → List Call
+cartAimed brake = AddWheel braked ∷ SetControls 0 (pressed zero brake) ∷ Aim (rolling twelve) ∷ []
+
+abbrev pub ladenAimed : Float → List Call
+ladenAimed brake = AddWheel braked ∷ AddWheel lifted ∷ SetControls 0 (pressed zero brake) ∷ Aim sinking ∷ []
+
+abbrev pub cartCalls : Float → List Call
+cartCalls brake = cartAimed brake ++ (Drive lane 1 ∷ ReadWheel 0 ∷ [])
+
+abbrev pub ladenCalls : Float → List Call
+ladenCalls brake = ladenAimed brake ++ (Drive track 2 ∷ ReadWheel 0 ∷ [])
+
+-- ---- the drive itself: a table with the chassis, one or two wheels and room for the others, aimed, with axes 1 and 0
+abbrev pub cart : Float → Step
+cart brake = record {
+  table = chassisList (rolling twelve) ++ rowOf (placed braked (pressed zero brake)) ++ replicate (15 * at.ROW) zero;
+  whole = 1 ∷ at.AIMED ∷ 1 ∷ 0 ∷ [];
+  frame = lane;
+  n = 1;
+}
+
+abbrev pub laden : Float → Step
+laden brake = record {
+  table = chassisList sinking ++ rowOf (placed braked (pressed zero brake)) ++ rowOf (placed lifted (pressed zero zero)) ++ replicate (14 * at.ROW) zero;
+  whole = 2 ∷ at.AIMED ∷ 1 ∷ 0 ∷ [];
+  frame = track;
+  n = 2;
+}
+
+-- the chassis after the springs of either
+abbrev pub settledChassis : Chassis
+settledChassis = turning (vector twelve four five) (vector minus-four zero zero)
