@@ -201,7 +201,7 @@ module _ (f : Format) (lent : State) (up forward : ℕ) (l : List Call) (set-up 
 
 -- ---- Change request 2026-13, "More brake, never less braking." "For an unpowered grounded wheel, with chassis after the springs, hit, ground, number of grounded wheels and own row but for the brake held the same, show
 -- that a greater brake never gives a rolling demand of smaller magnitude, nor one of the opposite sign unless a zero is involved. It speaks of the demand before the slide test, for two accepted steps."
--- The wheel of `e` is grounded and unpowered as that of `d` is: it has the same hit and the same engine force.
+-- `forwardDemand` is that demand. The wheel of `e` is grounded and unpowered as that of `d` is: it has the same hit and the same engine force.
 module _ {f : Format} {d e : Step} {i : ℕ} (g : Grounded f d i) (s : Stepped f e i) (unpowered : poweredAt d i ≡ false) (a : AlikeButForBrake f d e i) where
   pub more-brake : lt (brakeOf d i) (brakeOf e i) ≡ true → BrakesNoLess f (forwardDemand f d i) (forwardDemand f e i)
   more-brake h = demand-no-less a g s unpowered h

@@ -8,9 +8,9 @@ use Rattle.marked.specs.Numbers.{four}
 use Rattle.demands.specs.History.{Call, SetUp, run}
 use Rattle.witnesses.specs.Car.{sixteen, thirty-two}
 use Rattle.witnesses.specs.Calls.{lent, calls, otherCalls}
-use Rattle.witnesses.specs.Carts.{cartCalls, ladenCalls}
+use Rattle.witnesses.specs.Carts.{cartCalls, wagonCalls}
 use Rattle.witnesses.specs.Stream.{streamWords, answersTo}
-use Rattle.witnesses.specs.Oracle.{asked, told, otherAsked, otherTold, cartAsked, ladenAsked, cartToldFour, cartToldSixteen, ladenToldZero, ladenToldFour, ladenToldThirtyTwo}
+use Rattle.witnesses.specs.Oracle.{asked, told, otherAsked, otherTold, cartAsked, wagonAsked, cartToldFour, cartToldSixteen, wagonToldZero, wagonToldFour, wagonToldThirtyTwo}
 use Rattle.witnesses.specs.Opened.{opened}
 
 pub record AsTold (l : List Call) (asked told : List (List ℕ)) : Type 0 where
@@ -25,7 +25,7 @@ pub other-calls-as-told : AsTold otherCalls otherAsked otherTold
 unfolding opened
 other-calls-as-told = record { words = refl; answers = refl }
 
--- ---- the carts, each brake by its pattern
+-- ---- the cart and the wagon, each brake by its pattern
 pub cart-four-as-told : AsTold (cartCalls four) (cartAsked 0x40800000) cartToldFour
 unfolding opened
 cart-four-as-told = record { words = refl; answers = refl }
@@ -34,14 +34,14 @@ pub cart-sixteen-as-told : AsTold (cartCalls sixteen) (cartAsked 0x41800000) car
 unfolding opened
 cart-sixteen-as-told = record { words = refl; answers = refl }
 
-pub laden-zero-as-told : AsTold (ladenCalls zero) (ladenAsked 0) ladenToldZero
+pub wagon-zero-as-told : AsTold (wagonCalls zero) (wagonAsked 0) wagonToldZero
 unfolding opened
-laden-zero-as-told = record { words = refl; answers = refl }
+wagon-zero-as-told = record { words = refl; answers = refl }
 
-pub laden-four-as-told : AsTold (ladenCalls four) (ladenAsked 0x40800000) ladenToldFour
+pub wagon-four-as-told : AsTold (wagonCalls four) (wagonAsked 0x40800000) wagonToldFour
 unfolding opened
-laden-four-as-told = record { words = refl; answers = refl }
+wagon-four-as-told = record { words = refl; answers = refl }
 
-pub laden-thirty-two-as-told : AsTold (ladenCalls thirty-two) (ladenAsked 0x42000000) ladenToldThirtyTwo
+pub wagon-thirty-two-as-told : AsTold (wagonCalls thirty-two) (wagonAsked 0x42000000) wagonToldThirtyTwo
 unfolding opened
-laden-thirty-two-as-told = record { words = refl; answers = refl }
+wagon-thirty-two-as-told = record { words = refl; answers = refl }

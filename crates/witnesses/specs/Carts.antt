@@ -1,6 +1,6 @@
--- Change request 2026-13 on small numbers: two carts with one braked wheel each, and their drives under any brake. Definitions only.
--- The wheel hangs down at (0, 0, 1), 1.5 above flat ground at height 0; without a brake's bound it would be held back by −12. The laden cart has another time step and another kept chassis, and beside the braked wheel one that
--- meets nothing: its spring pushes by 8 × 3/4 and not by 16 × 1/2, and brings the chassis to the same velocities.
+-- Change request 2026-13 on small numbers: a cart and a wagon with one braked wheel each, and their drives under any brake. Definitions only.
+-- The wheel hangs down at (0, 0, 1), 1.5 above flat ground at height 0. The ground passes under it at 12, the sum of denominators is 1/2 + 1/2, and no other wheel is grounded: its rolling demand is −12, cut to the brake.
+-- The wagon has another time step, another kept chassis, and a second wheel that meets nothing. Its spring pushes by 8 × 3/4 and not by 16 × 1/2, and brings the chassis to the same velocities.
 use Prim.Native.Nat.{_*_}
 use mathlib.Core.Bool.{true}
 use mathlib.Core.List.{List, [], _∷_, _++_}
@@ -27,12 +27,12 @@ minus-zero = fin true 0 (pos 0)
 abbrev pub minus-twelve : Float
 minus-twelve = fin true 3 (pos 2)
 
--- ---- the braked wheel, the chassis of the laden cart, and both frames
+-- ---- the braked wheel, the wagon's chassis, and both frames
 abbrev pub braked : Settings
 braked = hanging zero one one sixteen eight
 
-abbrev pub sinking : Chassis
-sinking = turning (vector twelve one five) (vector minus-one zero zero)
+abbrev pub rising : Chassis
+rising = turning (vector twelve one five) (vector minus-one zero zero)
 
 abbrev pub lane : Frame
 lane = frame half [] [] (answerAt (met three-quarters ∷ []))
@@ -44,14 +44,14 @@ track = frame three-quarters [] [] (answerAt (met three-quarters ∷ Nothing ∷
 abbrev pub cartAimed : Float → List Call
 cartAimed brake = AddWheel braked ∷ SetControls 0 (pressed zero brake) ∷ Aim (rolling twelve) ∷ []
 
-abbrev pub ladenAimed : Float → List Call
-ladenAimed brake = AddWheel braked ∷ AddWheel lifted ∷ SetControls 0 (pressed zero brake) ∷ Aim sinking ∷ []
+abbrev pub wagonAimed : Float → List Call
+wagonAimed brake = AddWheel braked ∷ AddWheel lifted ∷ SetControls 0 (pressed zero brake) ∷ Aim rising ∷ []
 
 abbrev pub cartCalls : Float → List Call
 cartCalls brake = cartAimed brake ++ (Drive lane 1 ∷ ReadWheel 0 ∷ [])
 
-abbrev pub ladenCalls : Float → List Call
-ladenCalls brake = ladenAimed brake ++ (Drive track 2 ∷ ReadWheel 0 ∷ [])
+abbrev pub wagonCalls : Float → List Call
+wagonCalls brake = wagonAimed brake ++ (Drive track 2 ∷ ReadWheel 0 ∷ [])
 
 -- ---- the drive itself: a table with the chassis, one or two wheels and room for the others, aimed, with axes 1 and 0
 abbrev pub cart : Float → Step
@@ -62,9 +62,9 @@ cart brake = record {
   n = 1;
 }
 
-abbrev pub laden : Float → Step
-laden brake = record {
-  table = chassisList sinking ++ rowOf (placed braked (pressed zero brake)) ++ rowOf (placed lifted (pressed zero zero)) ++ replicate (14 * at.ROW) zero;
+abbrev pub wagon : Float → Step
+wagon brake = record {
+  table = chassisList rising ++ rowOf (placed braked (pressed zero brake)) ++ rowOf (placed lifted (pressed zero zero)) ++ replicate (14 * at.ROW) zero;
   whole = 2 ∷ at.AIMED ∷ 1 ∷ 0 ∷ [];
   frame = track;
   n = 2;

@@ -97,7 +97,7 @@ otherTold =
     ∷ (5 ∷ [])
     ∷ []
 
--- ---- the carts under a brake, which is the word `brake` of the stream
+-- ---- the cart and the wagon under a brake, which is the word `brake` of the stream
 abbrev pub cartAsked : ℕ → List (List ℕ)
 cartAsked brake =
     (1 ∷ 0 ∷ 0 ∷ 0x3f800000 ∷ 0 ∷ 0xbf800000 ∷ 0 ∷ 0 ∷ 0 ∷ 0x3f800000 ∷ 0x3f800000 ∷ 0x3f800000 ∷ 0x41800000 ∷ 0x40000000 ∷ 0x40000000 ∷ 0x3f000000 ∷ 0x40800000 ∷ 0x41000000 ∷ 0x44800000 ∷ [])
@@ -107,8 +107,8 @@ cartAsked brake =
     ∷ (5 ∷ 0 ∷ [])
     ∷ []
 
-abbrev pub ladenAsked : ℕ → List (List ℕ)
-ladenAsked brake =
+abbrev pub wagonAsked : ℕ → List (List ℕ)
+wagonAsked brake =
     (1 ∷ 0 ∷ 0 ∷ 0x3f800000 ∷ 0 ∷ 0xbf800000 ∷ 0 ∷ 0 ∷ 0 ∷ 0x3f800000 ∷ 0x3f800000 ∷ 0x3f800000 ∷ 0x41800000 ∷ 0x40000000 ∷ 0x40000000 ∷ 0x3f000000 ∷ 0x40800000 ∷ 0x41000000 ∷ 0x44800000 ∷ [])
     ∷ (1 ∷ 0x40000000 ∷ 0 ∷ 0xbf800000 ∷ 0 ∷ 0xbf800000 ∷ 0 ∷ 0 ∷ 0 ∷ 0x3f800000 ∷ 0x3f800000 ∷ 0x3f800000 ∷ 0x41800000 ∷ 0x40000000 ∷ 0x40000000 ∷ 0x3f000000 ∷ 0x40800000 ∷ 0x3f800000 ∷ 0x44800000 ∷ [])
     ∷ (2 ∷ 0 ∷ 0 ∷ brake ∷ 0 ∷ 0 ∷ 0 ∷ 0x3f800000 ∷ [])
@@ -117,7 +117,7 @@ ladenAsked brake =
     ∷ (5 ∷ 0 ∷ [])
     ∷ []
 
--- In words, with a brake of 4 the wheel pushes by −4 and with 16 by −12; the velocities become (10, 4, about 0.2) and (6, 4, about 0.2).
+-- The cart: with a brake of 4 its wheel pushes by −4, with 16 by −12; the velocities become (10, 4, about 0.2) and (6, 4, about 0.2).
 abbrev pub cartToldFour : List (List ℕ)
 cartToldFour =
     (0 ∷ [])
@@ -136,9 +136,9 @@ cartToldSixteen =
     ∷ (0 ∷ 0 ∷ 0x3fc00000 ∷ 0x3f800000 ∷ 0 ∷ 0xbf800000 ∷ 0 ∷ 0 ∷ 0 ∷ 0x3f800000 ∷ 0x3f000000 ∷ 0x41800000 ∷ 0xc1400000 ∷ 0xc119999a ∷ 0x3f800000 ∷ 0x40100000 ∷ [])
     ∷ []
 
--- Laden, with no brake it pushes by −0, with 4 by −4 and with 32 by −12. With a brake of −0 the oracle prints −0 where document 01's clamp gives 0 (docs/DIFFERENCES.md), so that history is not here.
-abbrev pub ladenToldZero : List (List ℕ)
-ladenToldZero =
+-- The wagon: with no brake its wheel pushes by −0, with 4 by −4 and with 32 by −12. With a brake of −0 the oracle prints −0 where document 01's clamp gives 0 (docs/DIFFERENCES.md), so that history is not here.
+abbrev pub wagonToldZero : List (List ℕ)
+wagonToldZero =
     (0 ∷ [])
     ∷ (0 ∷ [])
     ∷ (0 ∷ [])
@@ -147,8 +147,8 @@ ladenToldZero =
     ∷ (0 ∷ 0 ∷ 0x3fc00000 ∷ 0x3f800000 ∷ 0 ∷ 0xbf800000 ∷ 0 ∷ 0 ∷ 0 ∷ 0x3f800000 ∷ 0x3f000000 ∷ 0x41000000 ∷ 0x80000000 ∷ 0xc119999a ∷ 0x3f800000 ∷ 0x41100000 ∷ [])
     ∷ []
 
-abbrev pub ladenToldFour : List (List ℕ)
-ladenToldFour =
+abbrev pub wagonToldFour : List (List ℕ)
+wagonToldFour =
     (0 ∷ [])
     ∷ (0 ∷ [])
     ∷ (0 ∷ [])
@@ -157,8 +157,8 @@ ladenToldFour =
     ∷ (0 ∷ 0 ∷ 0x3fc00000 ∷ 0x3f800000 ∷ 0 ∷ 0xbf800000 ∷ 0 ∷ 0 ∷ 0 ∷ 0x3f800000 ∷ 0x3f000000 ∷ 0x41000000 ∷ 0xc0800000 ∷ 0xc119999a ∷ 0x3f800000 ∷ 0x40e40000 ∷ [])
     ∷ []
 
-abbrev pub ladenToldThirtyTwo : List (List ℕ)
-ladenToldThirtyTwo =
+abbrev pub wagonToldThirtyTwo : List (List ℕ)
+wagonToldThirtyTwo =
     (0 ∷ [])
     ∷ (0 ∷ [])
     ∷ (0 ∷ [])
