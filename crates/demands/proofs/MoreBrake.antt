@@ -56,8 +56,9 @@ module _ {f : Format} {d e : Step} {i : ℕ} (a : AlikeButForBrake f d e i) wher
       let kept = chassisAt (e .table) .body in
       let row = storedWheel d i in
       let same = contact-alike f (row .settings .tuning) (chassisAt (d .table) .body) kept (d .frame .answer i) row (brakeOf e i) in
+      let braked = sprungWheel f (row .settings .tuning) kept (d .frame .answer i) (withBrake row (brakeOf e i)) in
       let body : bodyIn f d ≡ bodyIn f e = ap (λ (c : Chassis). c .body) (a .after-springs) in
-      uncut-of-contact f (bodyIn f d) (groundIn d i) (groundedIn d) _ _ (same .0) (same .1)
+      uncut-of-contact f (bodyIn f d) (groundIn d i) (groundedIn d) (sprungAt f d i) braked (same .0) (same .1)
       ∙ ap (λ (w : Wheel). uncutOf f (bodyIn f d) (groundIn d i) (groundedIn d) (sprungWheel f (w .settings .tuning) kept (d .frame .answer i) w)) (a .own-row)
       ∙ ap (λ (r : RayAnswer). uncutOf f (bodyIn f d) (groundIn d i) (groundedIn d) (sprungWheel f (storedWheel e i .settings .tuning) kept r (storedWheel e i))) (a .own-hit)
       ∙ ap (λ (b : Body). uncutOf f b (groundIn d i) (groundedIn d) (sprungAt f e i)) body
