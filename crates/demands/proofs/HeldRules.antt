@@ -5,7 +5,7 @@ use mathlib.Core.List.{[], _∷_, _++_}
 use lib.Dec.{T}
 use lib.ListN.{replicate}
 use lib.Ieee.{Float, Format, neg, mul, div, le, lt, eq, ne, fits}
-use lib.Ieee.Fits.{cond-fits, neg-fits, add-fits, sub-fits, mul-fits, div-fits}
+use lib.Ieee.Fits.{cond-fits, add-fits, sub-fits, mul-fits, div-fits}
 use Rattle.real.specs.Number.{zero, one}
 use Rattle.real.specs.Scalar.{notBelowZero}
 use Rattle.real.proofs.Clamping.{clamp-fits}
@@ -20,8 +20,8 @@ use Rattle.tyre.specs.declared.Friction.{Friction}
 use Rattle.tyre.specs.declared.WheelTuning.{WheelTuning}
 use Rattle.tyre.specs.Suspension.{suspensionLength, approachOf, suspensionForce, clip}
 use Rattle.tyre.specs.Demand.{sideResponse, rollingResponse, rollingOf}
-use Rattle.tyre.specs.Grip.{withSkid, rescaledOf, brakedOf, limitOf}
-use Rattle.tyre.proofs.Brake.{one-fits, rescaled-fits, skid-fits}
+use Rattle.tyre.specs.Grip.{withSkid, rescaledOf, limitOf}
+use Rattle.tyre.proofs.Brake.{one-fits, rescaled-fits, skid-fits, braked-fits}
 use Rattle.wheel.specs.declared.Settings.{Settings}
 use Rattle.wheel.specs.declared.Controls.{Controls}
 use Rattle.wheel.specs.declared.Directions.{Directions}
@@ -149,9 +149,9 @@ module _ (f : Format) where
   uncut-fits speed sum grounded = div-fits f _ _
 
   pub rolling-fits : (dt : Float) (chassis : Body) (ground : Ground) (grounded : ℕ) (forward : Vector) (w : Wheel) → T (fits f (w .controls .brake)) → T (fits f (rollingDemand f dt chassis ground grounded forward w))
-  unfolding rollingDemand rollingOf brakedOf
+  unfolding rollingDemand rollingOf
   rolling-fits dt chassis ground grounded forward w b =
-      cond-fits f (ne (w .controls .engine) zero) _ _ (mul-fits f _ _) (clamp-fits f (neg (w .controls .brake)) (w .controls .brake) _ (neg-fits f _ b) b (uncut-fits _ _ grounded))
+      cond-fits f (ne (w .controls .engine) zero) _ _ (mul-fits f _ _) (braked-fits f (w .controls .brake) _ b (uncut-fits _ _ grounded))
 
   pub side-fits : (tuning : WheelTuning) (chassis : Body) (ground : Ground) (axis : Vector) (w : Wheel) → T (fits f (sideDemand f tuning chassis ground axis w))
   unfolding sideDemand sideResponse

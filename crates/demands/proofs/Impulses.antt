@@ -1,5 +1,5 @@
--- The impulses of one wheel in an accepted step. In order: its force is not below 0; what an accepted step has tested of wheel i;
--- its impulses as its demands rescaled, and as those of the wheel alone. Assumes nothing.
+-- The impulses of one wheel in an accepted step. In order: its force is not below 0; what an accepted step has tested of wheel i; its impulses as its demands rescaled; an unpowered one's demand as a number cut to its
+-- brake, and its impulse within the brake; the impulses as those of the wheel alone. Assumes nothing.
 use Prim.Native.Nat.{ℕ, _+_, _≤_, _<_}
 use mathlib.Core.Bool.{Bool, true, false, cond, not}
 use mathlib.Core.List.{List}
@@ -7,7 +7,7 @@ use mathlib.Core.Path.{_≡_, refl, sym, ap, subst, _∙_}
 use native.Mathlib.Omega.{arith}
 use lib.ListN.{getD}
 use lib.Dec.{T}
-use lib.Ieee.{Float, Format, nan, neg, le, lt, ne, isNan}
+use lib.Ieee.{Float, Format, nan, le, lt, ne, isNan}
 use Rattle.lists.specs.Pick.{pick}
 use Rattle.lists.proofs.Parts.{getD-part}
 use Rattle.lists.proofs.Picks.{pick-true}
@@ -16,7 +16,6 @@ use Rattle.real.specs.Number.{zero}
 use Rattle.real.specs.Units.{count}
 use Rattle.real.specs.Scalar.{within, notBelowZero}
 use Rattle.real.proofs.NotNegative.{zero-le-not-below-zero}
-use Rattle.real.proofs.Clamping.{not-nan-of-clamp}
 use Rattle.vector.specs.declared.Vector.{Vector}
 use Rattle.vector.specs.Arithmetic.{dotV}
 use Rattle.body.specs.declared.Body.{Body}
@@ -28,6 +27,7 @@ use Rattle.tyre.specs.Demand.{rollingResponse, rollingOf}
 use Rattle.tyre.specs.Grip.{skidOf, withSkid, airborne, rescaledBy, rescaledOf, brakedOf}
 use Rattle.tyre.specs.Demand3.{Admitted, Brake, WithinBrake}
 use Rattle.tyre.proofs.GripCircle.{small-of-admitted, sized-of-small}
+use Rattle.tyre.proofs.Brake.{not-nan-of-braked}
 use Rattle.tyre.proofs.Demand3.{unpowered as unpowered-within, limit-not-negative}
 use Rattle.wheel.specs.declared.Settings.{Settings}
 use Rattle.wheel.specs.declared.Wheel.{Wheel}
@@ -237,8 +237,7 @@ module _ (f : Format) (d : Step) (i : ℕ) (g : Grounded f d i) (unpowered : pow
   braked-admitted = subst (Admitted f) forward-braked (forward-admitted f d i g)
 
   pub uncut-not-nan : T (not (isNan (uncutAt f d i)))
-  unfolding brakedOf
-  uncut-not-nan = not-nan-of-clamp (neg (brakeOf d i)) (brakeOf d i) (uncutAt f d i) (small-of-admitted braked-admitted .fine)
+  uncut-not-nan = not-nan-of-braked (brakeOf d i) (uncutAt f d i) braked-admitted
 
 module _ (f : Format) (d : Step) (i : ℕ) (s : Stepped f d i) (unpowered : poweredAt d i ≡ false) where
   grounded-within-brake : groundedAt (d .frame .answer) i ≡ true → WithinBrake f (brakeOf d i) (forwardImpulse f d i)

@@ -1,4 +1,4 @@
--- Change request 2026-13: two accepted steps that are alike to a grounded, unpowered wheel but for its brake. In order: where its ray meets the ground depends neither on the kept chassis nor on the brake
+-- Change request 2026-13: two accepted steps that are alike to a grounded, unpowered wheel but for its brake. In order: a wheel with another brake has it (brake-of-with-brake); where its ray meets the ground depends neither on the kept chassis nor on the brake
 -- (contact-alike); so what the brakes cut is one number (uncut-alike), and the two demands are that number, cut to either brake: which is no less under the greater brake (demand-no-less), of one size under equal ones
 -- (demand-equal), and the same under the same (demand-same). Assumes nothing.
 use Prim.Native.Nat.{ℕ}
@@ -29,6 +29,10 @@ use Rattle.demands.proofs.HeldRules.{uncut-fits}
 use Rattle.demands.proofs.Impulses.{bodyIn, groundIn, groundedIn, sprungAt, uncutOf, uncutAt, brake-of-stepped, forward-braked, uncut-not-nan}
 
 -- ---- one wheel
+-- a wheel with another brake has that brake
+pub brake-of-with-brake : (w : Wheel) (brake : Float) → withBrake w brake .controls .brake ≡ brake
+brake-of-with-brake w brake = refl
+
 contact-alike : (f : Format) (tuning : WheelTuning) (kept kept' : Body) (answer : RayAnswer) (w : Wheel) (brake : Float)
     → (sprungWheel f tuning kept answer w .info ≡ sprungWheel f tuning kept' answer (withBrake w brake) .info)
     × (sprungWheel f tuning kept answer w .place ≡ sprungWheel f tuning kept' answer (withBrake w brake) .place)

@@ -1,12 +1,12 @@
 -- Rules 7 and 8 of an unpowered wheel, on the values of the program: a demand that skid rescales is no larger afterwards, since skid is a value that is not negative (one-fits, rescaled-fits, skid-fits, skid-not-negative, rescaled-le);
--- and a brake is a bound to clamp to (brake-signed). Assumes nothing.
+-- a brake is a bound to clamp to (brake-signed); and what is clamped to it is a value of the format (braked-fits), no NaN where the demand was let through (not-nan-of-braked). Assumes nothing.
 use mathlib.Core.Path.{_≡_, refl}
 use Prim.Native.Nat.{_≤_}
 use native.Mathlib.Nat.{le-refl, le-trans, le-of-eq}
-use mathlib.Core.Bool.{Bool, true, false, cond}
+use mathlib.Core.Bool.{Bool, true, false, not, cond}
 use lib.Dec.{T}
-use lib.Ieee.{Float, Format, binary32, binary64, mul, lt, fits}
-use lib.Ieee.Fits.{cond-fits, mul-fits}
+use lib.Ieee.{Float, Format, binary32, binary64, neg, mul, lt, fits, isNan}
+use lib.Ieee.Fits.{cond-fits, neg-fits, mul-fits}
 use lib.Ieee.Scale.{finite}
 use Rattle.real.specs.Number.{one}
 use Rattle.real.specs.Root.{rootOf}
@@ -16,9 +16,9 @@ use Rattle.real.proofs.SignedCounts.{count-of, finite-of, own-count, own-holds}
 use Rattle.real.proofs.NotNegative.{NotNegative, mul-not-negative, inverse-not-negative, root-not-negative, below-one}
 use Rattle.real.proofs.Rounding.{mul-shrinks}
 use Rattle.real.proofs.Bounds.{bounded-counted}
-use Rattle.real.proofs.Clamping.{Signed, signed-of-le}
-use Rattle.tyre.specs.Grip.{loadOf, slides, skidOf, rescaledBy}
-use Rattle.tyre.specs.Demand3.{Brake}
+use Rattle.real.proofs.Clamping.{Signed, signed-of-le, clamp-fits, not-nan-of-clamp}
+use Rattle.tyre.specs.Grip.{loadOf, slides, skidOf, rescaledBy, brakedOf}
+use Rattle.tyre.specs.Demand3.{Admitted, Brake}
 use Rattle.tyre.proofs.GripCircle.{small-of-admitted}
 
 pub one-fits : (f : Format) → T (fits f one)
@@ -59,3 +59,11 @@ rescaled-le f skid v g p h t = either (lt skid one) refl
 
 pub brake-signed : {f : Format} {brake : Float} → Brake f brake → Signed f brake false (count f brake)
 brake-signed b = signed-of-le (bounded-counted (small-of-admitted (b .admitted))) (b .at-least)
+
+pub braked-fits : (f : Format) (brake rolling : Float) → T (fits f brake) → T (fits f rolling) → T (fits f (brakedOf brake rolling))
+unfolding brakedOf
+braked-fits f brake rolling b g = clamp-fits f (neg brake) brake rolling (neg-fits f brake b) b g
+
+pub not-nan-of-braked : {f : Format} (brake rolling : Float) → Admitted f (brakedOf brake rolling) → T (not (isNan rolling))
+unfolding brakedOf
+not-nan-of-braked brake rolling a = not-nan-of-clamp (neg brake) brake rolling (small-of-admitted a .fine)

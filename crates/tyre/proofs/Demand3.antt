@@ -5,17 +5,17 @@ use native.Mathlib.Nat.{le-trans}
 use mathlib.Core.Bool.{true, false}
 use lib.Dec.{T}
 use lib.Pow.{pow-pos}
-use lib.Ieee.{Float, Format, binary32, binary64, low, neg, mul, lt, le, fits}
+use lib.Ieee.{Float, Format, binary32, binary64, low, mul, lt, le, fits}
 use Rattle.real.specs.Number.{zero}
 use Rattle.real.proofs.SignedCounts.{fraction-counted}
 use Rattle.real.proofs.NotNegative.{not-negative-of-le, le-of-not-negative, mul-not-negative}
 use Rattle.real.proofs.Bounds.{bounded-counted, bounded-not-nan, at-least-of-le}
-use Rattle.real.proofs.Clamping.{clamp-le, not-nan-of-clamp}
+use Rattle.real.proofs.Clamping.{clamp-le}
 use Rattle.tyre.specs.Grip.{slides, skidOf, rescaledBy, brakedOf, limitOf}
 use Rattle.tyre.specs.Demand3.{precision, Grips, WithinBrake, Admitted, GripLimit, Brake}
 use Rattle.tyre.proofs.Ranges.{ranges}
 use Rattle.tyre.proofs.GripCircle.{small-of-admitted, sized-of-small, grips}
-use Rattle.tyre.proofs.Brake.{skid-fits, rescaled-fits, skid-not-negative, rescaled-le, brake-signed}
+use Rattle.tyre.proofs.Brake.{skid-fits, rescaled-fits, skid-not-negative, rescaled-le, brake-signed, not-nan-of-braked}
 
 -- "If its demand does not pass the slide test, its two impulses are exactly the demand."
 pub not-sliding : (f : Format) (forward side limit : Float) → slides f forward side limit ≡ false
@@ -48,7 +48,7 @@ unfolding brakedOf
 unpowered f brake rolling side limit b g a h =
     let forward = brakedOf brake rolling in
     let s = small-of-admitted a in
-    let n = not-nan-of-clamp (neg brake) brake rolling (s .fine) in
+    let n = not-nan-of-braked brake rolling a in
     let r = rescaled-le f (skidOf f forward side limit) forward (skid-fits f forward side limit) (skid-not-negative f forward side limit (not-negative-of-le limit h)) (s .fit) (s .fine) in
     record { impulse-sized = record { held = rescaled-fits f (skidOf f forward side limit) forward (s .fit); is-finite = r .0 }; brake-sized = sized-of-small (small-of-admitted (b .admitted)); at-most = le-trans (r .1) (clamp-le (brake-signed b) rolling g n) }
 

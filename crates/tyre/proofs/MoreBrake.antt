@@ -7,15 +7,14 @@ use native.Mathlib.Nat.{le-of-eq}
 use mathlib.Core.Bool.{Bool, true, false, not, cond, true≢false}
 use lib.Dec.{T}
 use lib.Ieee.{Float, nan, inf, fin, Format, neg, lt, le, eq, fits, isNan}
-use lib.Ieee.Fits.{neg-fits}
 use lib.Ieee.Scale.{finite}
 use Rattle.real.specs.Scalar.{clampOf, raisedOf, loweredOf}
 use Rattle.real.specs.Units.{count, minus?}
-use Rattle.real.proofs.Clamping.{count-le-of-le, count-eq-of-eq, clamp-sign, clamp-finite, clamp-fits, clamp-mono}
+use Rattle.real.proofs.Clamping.{count-le-of-le, count-eq-of-eq, clamp-sign, clamp-finite, clamp-mono}
 use Rattle.tyre.specs.Grip.{brakedOf}
 use Rattle.tyre.specs.Demand3.{Sized, Brake}
 use Rattle.tyre.specs.MoreBrake.{BrakesNoLess}
-use Rattle.tyre.proofs.Brake.{brake-signed}
+use Rattle.tyre.proofs.Brake.{brake-signed, braked-fits}
 
 module _ (f : Format) (rolling : Float) (g : T (fits f rolling)) (n : T (not (isNan rolling))) where
   -- ---- one brake
@@ -25,9 +24,7 @@ module _ (f : Format) (rolling : Float) (g : T (fits f rolling)) (n : T (not (is
 
   pub braked-sized : {brake : Float} → Brake f brake → Sized f (brakedOf brake rolling)
   unfolding brakedOf
-  braked-sized {brake} b =
-      let own = b .admitted .held in
-      record { held = clamp-fits f (neg brake) brake rolling (neg-fits f brake own) own g; is-finite = clamp-finite (brake-signed b) rolling g n }
+  braked-sized {brake} b = record { held = braked-fits f brake rolling (b .admitted .held) g; is-finite = clamp-finite (brake-signed b) rolling g n }
 
   -- ---- two brakes
   pub braked-le : {less more : Float} → Brake f less → Brake f more → count f less ≤ count f more → count f (brakedOf less rolling) ≤ count f (brakedOf more rolling)

@@ -1,5 +1,5 @@
 -- Two histories: the calls that are made on the two cars of Car.antt, what they leave, and the drive in each. Definitions only.
-use Prim.Native.Nat.{_*_}
+use Prim.Native.Nat.{ℕ, _-_, _*_}
 use mathlib.Core.List.{List, [], _∷_, _++_}
 use lib.ListN.{replicate}
 use lib.Ieee.{Float, binary32, nan}
@@ -75,7 +75,7 @@ otherCalls =
 abbrev pub leftBy : List Call → State
 leftBy l = runAll binary32 (SetUp 1 0 ∷ l) lent
 
--- where a wheel stands once it is aimed, such a wheel, and the table that an aim leaves: the chassis, three wheels and room for thirteen
+-- where a wheel stands once it is aimed, and such a wheel
 abbrev pub raised : Vector → Vector
 raised connection = vector (connection .x) three-halves (connection .z)
 
@@ -89,17 +89,19 @@ placed settings controls = record {
   motion = record { rotation = zero; spin = zero; force = zero; forward = zero; side = zero; skid = zero };
 }
 
-abbrev pub tableAimed : Settings → Settings → List Float
-tableAimed second third =
-    chassisList (rolling twelve)
-    ++ rowOf (placed front (pressed twelve zero))
-    ++ rowOf (placed second (pressed zero zero))
-    ++ rowOf (placed third (pressed zero four))
-    ++ replicate (13 * at.ROW) zero
+-- ---- a drive of n wheels that have these rows, after an aim of this chassis, with axes 1 and 0: behind the rows is room for the other wheels
+abbrev pub aimedDrive : Chassis → ℕ → List Float → Frame → Step
+aimedDrive chassis n rows r = record {
+  table = chassisList chassis ++ rows ++ replicate ((at.WHEELS - n) * at.ROW) zero;
+  whole = n ∷ at.AIMED ∷ 1 ∷ 0 ∷ [];
+  frame = r;
+  n = n;
+}
 
--- ---- the drive that follows: three wheels, aimed, axes 1 and 0
+-- ---- the drive that follows
 abbrev pub driveOver : Settings → Settings → Frame → Step
-driveOver second third r = record { table = tableAimed second third; whole = 3 ∷ at.AIMED ∷ 1 ∷ 0 ∷ []; frame = r; n = 3 }
+driveOver second third r =
+    aimedDrive (rolling twelve) 3 (rowOf (placed front (pressed twelve zero)) ++ rowOf (placed second (pressed zero zero)) ++ rowOf (placed third (pressed zero four))) r
 
 abbrev pub theDrive : Step
 theDrive = driveOver lifted rear road

@@ -1,11 +1,9 @@
 -- Change request 2026-13 on small numbers: a cart and a wagon with one braked wheel each, and their drives under any brake. Definitions only.
 -- The wheel hangs down at (0, 0, 1), 1.5 above flat ground at height 0. The ground passes under it at 12, the sum of denominators is 1/2 + 1/2, and no other wheel is grounded: its rolling demand is −12, cut to the brake.
 -- The wagon has another time step, another kept chassis, and a second wheel that meets nothing. Its spring pushes by 8 × 3/4 and not by 16 × 1/2, and brings the chassis to the same velocities.
-use Prim.Native.Nat.{_*_}
 use mathlib.Core.Bool.{true}
 use mathlib.Core.List.{List, [], _∷_, _++_}
 use lib.IntN.{pos}
-use lib.ListN.{replicate}
 use lib.Ieee.{Float, fin}
 use Rattle.real.specs.Number.{zero, one, half}
 use Rattle.marked.specs.Numbers.{four, five, eight, twelve, three-quarters}
@@ -13,13 +11,12 @@ use Rattle.body.specs.declared.Chassis.{Chassis}
 use Rattle.wheel.specs.declared.Settings.{Settings}
 use Rattle.wheel.specs.declared.RayAnswer.the-variants.{Nothing}
 use Rattle.wheel.specs.Ray.{answerAt}
-use Rattle.table.specs.Layout as at
-use Rattle.table.specs.Rows.{rowOf, chassisList}
+use Rattle.table.specs.Rows.{rowOf}
 use Rattle.ground.specs.Frame.{Frame, frame}
 use Rattle.demands.specs.History.{Call, AddWheel, SetControls, Aim, Drive, ReadWheel}
 use Rattle.demands.specs.Impulses.{Step}
 use Rattle.witnesses.specs.Car.{minus-one, minus-four, sixteen, vector, hanging, lifted, pressed, turning, rolling, met}
-use Rattle.witnesses.specs.Calls.{placed}
+use Rattle.witnesses.specs.Calls.{placed, aimedDrive}
 
 abbrev pub minus-zero : Float
 minus-zero = fin true 0 (pos 0)
@@ -53,23 +50,13 @@ cartCalls brake = cartAimed brake ++ (Drive lane 1 ∷ ReadWheel 0 ∷ [])
 abbrev pub wagonCalls : Float → List Call
 wagonCalls brake = wagonAimed brake ++ (Drive track 2 ∷ ReadWheel 0 ∷ [])
 
--- ---- the drive itself: a table with the chassis, one or two wheels and room for the others, aimed, with axes 1 and 0
+-- ---- the drive itself
 abbrev pub cart : Float → Step
-cart brake = record {
-  table = chassisList (rolling twelve) ++ rowOf (placed braked (pressed zero brake)) ++ replicate (15 * at.ROW) zero;
-  whole = 1 ∷ at.AIMED ∷ 1 ∷ 0 ∷ [];
-  frame = lane;
-  n = 1;
-}
+cart brake = aimedDrive (rolling twelve) 1 (rowOf (placed braked (pressed zero brake))) lane
 
 abbrev pub wagon : Float → Step
-wagon brake = record {
-  table = chassisList rising ++ rowOf (placed braked (pressed zero brake)) ++ rowOf (placed lifted (pressed zero zero)) ++ replicate (14 * at.ROW) zero;
-  whole = 2 ∷ at.AIMED ∷ 1 ∷ 0 ∷ [];
-  frame = track;
-  n = 2;
-}
+wagon brake = aimedDrive rising 2 (rowOf (placed braked (pressed zero brake)) ++ rowOf (placed lifted (pressed zero zero))) track
 
 -- the chassis after the springs of either
-abbrev pub settledChassis : Chassis
-settledChassis = turning (vector twelve four five) (vector minus-four zero zero)
+abbrev pub cartSprung : Chassis
+cartSprung = turning (vector twelve four five) (vector minus-four zero zero)
