@@ -1,5 +1,5 @@
 -- Rules 7 and 8 of an unpowered wheel, on the values of the program: a demand that skid rescales is no larger afterwards, since skid is a value that is not negative (one-fits, rescaled-fits, skid-fits, skid-not-negative, rescaled-le);
--- a brake is a bound to clamp to (brake-signed); and what is clamped to it is a value of the format (braked-fits), no NaN where the demand was let through (not-nan-of-braked). Assumes nothing.
+-- a brake is a bound to clamp to (brake-signed); what is clamped to it is a value of the format (braked-fits), and what was clamped is no NaN where refusal 7 lets the demand through (not-nan-of-braked). Assumes nothing.
 use mathlib.Core.Path.{_≡_, refl}
 use Prim.Native.Nat.{_≤_}
 use native.Mathlib.Nat.{le-refl, le-trans, le-of-eq}

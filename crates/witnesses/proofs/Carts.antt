@@ -1,7 +1,7 @@
 -- The theorems of change request 2026-13, each applied to a drive of the cart and one of the wagon. In order: what the calls leave, and that each drive is one of an unpowered wheel on the ground; the demands under each brake;
 -- how a cart and a wagon are alike, whatever their brakes; the theorems, and that none can be said more sharply. Assumes nothing.
 use Prim.Native.Nat.{_≤_, _<_}
-use mathlib.Core.Bool.{true, false, true≢false}
+use mathlib.Core.Bool.{false, true≢false}
 use mathlib.Core.List.{List, [], _∷_}
 use mathlib.Core.Path.{_≡_, refl, sym, _∙_}
 use lib.Dec.{lit<, le→leb, lt→ltb}
@@ -10,12 +10,10 @@ use Rattle.real.specs.Number.{zero as none}
 use Rattle.real.specs.Units.{count, minus?}
 use Rattle.marked.specs.Numbers.{four}
 use Rattle.tyre.specs.MoreBrake.{BrakesNoLess}
-use Rattle.ground.specs.Frame.{groundedAt}
 use Rattle.passes.specs.Passes.{stored}
 use Rattle.passes.specs.Step.{sprung}
 use Rattle.demands.specs.History.{Call, state}
-use Rattle.demands.specs.Held.{Held}
-use Rattle.demands.specs.Impulses.{Step, Accepted, Grounded, forwardDemand, poweredAt}
+use Rattle.demands.specs.Impulses.{Step, Grounded, forwardDemand, poweredAt}
 use Rattle.demands.specs.MoreBrake.{AlikeButForBrake}
 use Rattle.demands.proofs.Demands as demands
 use Rattle.witnesses.specs.Car.{minus-four, sixteen, thirty-two}
@@ -30,33 +28,29 @@ pub record Braked (l : List Call) (d : Step) : Type 0 where
   pub grounded : Grounded binary32 d 0
   pub unpowered : poweredAt d 0 ≡ false
 
-reached : (l : List Call) (d : Step) → leftBy l ≡ state (d .table) (d .whole) → Accepted binary32 d → Held binary32 (d .table) → 0 < d .n → groundedAt (d .frame .answer) 0 ≡ true → poweredAt d 0 ≡ false → Braked l d
-reached l d left accepted held counted contact unpowered =
-    record { left = left; grounded = record { stepped = record { accepted = accepted; held = held; counted = counted }; contact = contact }; unpowered = unpowered }
-
 pub cart-minus-zero : Braked (cartAimed minus-zero) (cart minus-zero)
 unfolding opened
-cart-minus-zero = reached _ _ refl refl refl (lit< tt) refl refl
+cart-minus-zero = record { left = refl; grounded = record { stepped = record { accepted = refl; held = refl; counted = lit< tt }; contact = refl }; unpowered = refl }
 
 pub cart-four : Braked (cartAimed four) (cart four)
 unfolding opened
-cart-four = reached _ _ refl refl refl (lit< tt) refl refl
+cart-four = record { left = refl; grounded = record { stepped = record { accepted = refl; held = refl; counted = lit< tt }; contact = refl }; unpowered = refl }
 
 pub cart-sixteen : Braked (cartAimed sixteen) (cart sixteen)
 unfolding opened
-cart-sixteen = reached _ _ refl refl refl (lit< tt) refl refl
+cart-sixteen = record { left = refl; grounded = record { stepped = record { accepted = refl; held = refl; counted = lit< tt }; contact = refl }; unpowered = refl }
 
 pub wagon-zero : Braked (wagonAimed none) (wagon none)
 unfolding opened
-wagon-zero = reached _ _ refl refl refl (lit< tt) refl refl
+wagon-zero = record { left = refl; grounded = record { stepped = record { accepted = refl; held = refl; counted = lit< tt }; contact = refl }; unpowered = refl }
 
 pub wagon-four : Braked (wagonAimed four) (wagon four)
 unfolding opened
-wagon-four = reached _ _ refl refl refl (lit< tt) refl refl
+wagon-four = record { left = refl; grounded = record { stepped = record { accepted = refl; held = refl; counted = lit< tt }; contact = refl }; unpowered = refl }
 
 pub wagon-thirty-two : Braked (wagonAimed thirty-two) (wagon thirty-two)
 unfolding opened
-wagon-thirty-two = reached _ _ refl refl refl (lit< tt) refl refl
+wagon-thirty-two = record { left = refl; grounded = record { stepped = record { accepted = refl; held = refl; counted = lit< tt }; contact = refl }; unpowered = refl }
 
 -- ---- their demands: −12, cut to the brake
 abbrev demand : Step → Float

@@ -89,19 +89,17 @@ placed settings controls = record {
   motion = record { rotation = zero; spin = zero; force = zero; forward = zero; side = zero; skid = zero };
 }
 
--- ---- a drive of n wheels that have these rows, after an aim of this chassis, with axes 1 and 0: behind the rows is room for the other wheels
-abbrev pub aimedDrive : Chassis → ℕ → List Float → Frame → Step
-aimedDrive chassis n rows r = record {
-  table = chassisList chassis ++ rows ++ replicate ((at.WHEELS - n) * at.ROW) zero;
-  whole = n ∷ at.AIMED ∷ 1 ∷ 0 ∷ [];
-  frame = r;
-  n = n;
-}
+-- room for the wheels behind the first n; and a drive of n wheels over a table that an aim left, with axes 1 and 0
+abbrev pub room : ℕ → List Float
+room n = replicate ((at.WHEELS - n) * at.ROW) zero
+
+abbrev pub aimedDrive : List Float → ℕ → Frame → Step
+aimedDrive t n r = record { table = t; whole = n ∷ at.AIMED ∷ 1 ∷ 0 ∷ []; frame = r; n = n }
 
 -- ---- the drive that follows
 abbrev pub driveOver : Settings → Settings → Frame → Step
 driveOver second third r =
-    aimedDrive (rolling twelve) 3 (rowOf (placed front (pressed twelve zero)) ++ rowOf (placed second (pressed zero zero)) ++ rowOf (placed third (pressed zero four))) r
+    aimedDrive (chassisList (rolling twelve) ++ rowOf (placed front (pressed twelve zero)) ++ rowOf (placed second (pressed zero zero)) ++ rowOf (placed third (pressed zero four)) ++ room 3) 3 r
 
 abbrev pub theDrive : Step
 theDrive = driveOver lifted rear road

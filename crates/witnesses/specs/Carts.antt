@@ -11,12 +11,12 @@ use Rattle.body.specs.declared.Chassis.{Chassis}
 use Rattle.wheel.specs.declared.Settings.{Settings}
 use Rattle.wheel.specs.declared.RayAnswer.the-variants.{Nothing}
 use Rattle.wheel.specs.Ray.{answerAt}
-use Rattle.table.specs.Rows.{rowOf}
+use Rattle.table.specs.Rows.{rowOf, chassisList}
 use Rattle.ground.specs.Frame.{Frame, frame}
 use Rattle.demands.specs.History.{Call, AddWheel, SetControls, Aim, Drive, ReadWheel}
 use Rattle.demands.specs.Impulses.{Step}
 use Rattle.witnesses.specs.Car.{minus-one, minus-four, sixteen, vector, hanging, lifted, pressed, turning, rolling, met}
-use Rattle.witnesses.specs.Calls.{placed, aimedDrive}
+use Rattle.witnesses.specs.Calls.{placed, room, aimedDrive}
 
 abbrev pub minus-zero : Float
 minus-zero = fin true 0 (pos 0)
@@ -52,10 +52,10 @@ wagonCalls brake = wagonAimed brake ++ (Drive track 2 ∷ ReadWheel 0 ∷ [])
 
 -- ---- the drive itself
 abbrev pub cart : Float → Step
-cart brake = aimedDrive (rolling twelve) 1 (rowOf (placed braked (pressed zero brake))) lane
+cart brake = aimedDrive (chassisList (rolling twelve) ++ rowOf (placed braked (pressed zero brake)) ++ room 1) 1 lane
 
 abbrev pub wagon : Float → Step
-wagon brake = aimedDrive rising 2 (rowOf (placed braked (pressed zero brake)) ++ rowOf (placed lifted (pressed zero zero))) track
+wagon brake = aimedDrive (chassisList rising ++ rowOf (placed braked (pressed zero brake)) ++ rowOf (placed lifted (pressed zero zero)) ++ room 2) 2 track
 
 -- the chassis after the springs of either
 abbrev pub cartSprung : Chassis
