@@ -1,6 +1,5 @@
 -- What the proofs of `root` use: lemmas on plain numbers, and on bit patterns.
 mod Turns
-mod Checked
 mod Patterns
 mod Rounding
 mod Cases

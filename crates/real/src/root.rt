@@ -1,18 +1,84 @@
-// The square root of an f32, correctly rounded, by shifts and masks on its bit pattern.
-use std::num::wrapping_add_u32;
-use std::num::wrapping_sub_u32;
+// The square root of an f32, correctly rounded, worked out as on paper: one digit after another, by shifting and subtracting. The digits are binary.
+// `whole_root` finds the digits, `rounded` rounds the last of them away, `positive` takes the bit pattern apart, and `root` sees to the special cases.
 ghost use mathlib.Core.Path.{_≡_};
-ghost use mathlib.Core.Bool.{true};
-ghost use Prim.Native.Nat.{ℕ, _+_, _*_, _/_, _^_, _≤_, _<_};
+ghost use mathlib.Core.Bool.{cond};
+ghost use Prim.Native.Nat.{ℕ, _+_, _*_, _^_, _≤_, _<_};
 ghost use lib.Ieee.{binary32, prec, hid, ones, ofBits};
 ghost use Rattle.real.specs.Root.{rootOf, Nearest};
 
-// A bit pattern has the sign at its top, then the exponent's field, then the fraction: the digits below the leading one, which stands in no pattern.
+// What a 1 in the first place of a root is worth. A root has 25 digits, one more than an f32 keeps.
+const FIRST_PLACE: u32 = 0x100_0000;
+
+// The root of a number, cut to a whole number, one digit a turn. The number is places × 2^24. As places is below 2^26, the number is below 2^50 and its
+// root below 2^25: 25 digits.
+//
+// The root so far has its first digits, and zeros behind them. A turn decides the next digit; `place` is what a 1 there is worth. A 1 makes the root larger
+// by place, and its square by
+//
+//     (root + place)² − root² = (2 root + place) × place.
+//
+// So the digit is 1 where the square has that much room left below the number. To find out without a product, the room is kept divided by place, as
+// `remainder`, and is held against `trial`, which is 2 root + place:
+//
+//   - the trial is too large, more than the remainder: the digit is 0, and nothing is taken off;
+//   - it is not: the digit is 1, the trial is taken off the remainder, and place is added to the root.
+//
+// The next place is half as large, so the remainder then doubles. Of the root only the double is asked for, so that is what is kept, as `twice`: a digit 1
+// makes it trial + place, and at the end it is halved.
+//
+// Before every turn root² + remainder × place is the number, and (root + 2 place)² is more than the number. At the start the root is 0 and 2 place is 2^25,
+// whose square is 2^50. A place is two of the next: so a digit 1 leaves root + 2 place as it was, and a digit 0 makes it root + place, whose square is more
+// than the number, since the digit would be 1 otherwise. After the last turn the next place would be a half (`place` itself is cut to 0, which ends the
+// loop): so root² is not more than the number, and (root + 1)² is.
+//
+// By hand, the root of 2 to six digits. It is the root of 2048, cut to a whole number, with the point five digits further left, since 2048 is 2 × 32 × 32.
+// The first place is 32, and 2048 is 64 × 32:
+//
+//     place  twice  trial  remainder  digit    the next remainder
+//        32      0     32         64      1    2 × (64 − 32) = 64
+//        16     64     80         64      0    2 × 64 = 128
+//         8     64     72        128      1    2 × (128 − 72) = 112
+//         4     80     84        112      1    2 × (112 − 84) = 56
+//         2     88     90         56      0    2 × 56 = 112
+//         1     88     89        112      1    2 × (112 − 89) = 46
+//               90
+//
+// The root is 45, the half of 90, with the digits 101101: so the root of 2 begins with 1.01101 in binary, 1.40625 in decimal. To see that it is right:
+// 45 × 45 is 2025, and with the remainder of 46 halves it is 2048; 46 × 46 is 2116, more than 2048.
+fn whole_root(places: u32) -> u32
+    requires { ⌜ places < 4 * 2 ^ prec binary32 ⌝ }
+    ensures { λ r. ⌜ (r * r ≤ places * 2 ^ prec binary32) × (places * 2 ^ prec binary32 < (r + 1) * (r + 1)) ⌝ }
+{
+    let mut remainder = places;
+    let mut twice: u32 = 0;
+    let mut place = FIRST_PLACE;
+    while 0 < place {
+        let trial = twice + place;
+        let too_large = trial > remainder;
+        // both are doubled first: to double the difference would be one more step behind the subtraction
+        remainder = (remainder << 1) - by_digit(too_large, 0, trial << 1);
+        twice = by_digit(too_large, twice, trial + place);
+        place = place >> 1;
+    }
+    twice >> 1
+}
+
+// What goes with the digit: `zero` where it is 0, since the trial is too large, and `one` where it is 1. Both are at hand, so that this can be a choice
+// between two numbers and need not be a jump.
+fn by_digit(large: bool, zero: u32, one: u32) -> u32
+    ensures { λ r. ⌜ r ≡ cond large zero one ⌝ }
+{
+    if large { zero } else { one }
+}
+
+// A bit pattern has the sign at its top, then the exponent's field, then the fraction. A unit is 2^-149, the smallest f32 above zero. A field of 0 means as
+// many units as the fraction says: a zero or a subnormal number. A field f from 1 to 254 means m × 2^(f − 1) units, where m is the fraction with a leading 1
+// put before it, which the pattern does not have; 255 is the infinities' and the NaNs'.
 const FRACTION_BITS: u32 = 23;
 
 const FRACTION: u32 = 0x7f_ffff;
 
-// The leading digit, at its place above the fraction.
+// The leading 1, just above the fraction.
 const LEADING: u32 = 0x80_0000;
 
 const SIGN_BIT: u32 = 31;
@@ -23,127 +89,33 @@ const MAGNITUDE: u32 = 0x7fff_ffff;
 // The pattern of +infinity. Those of finite numbers above zero are below it.
 const INFINITY: u32 = 0x7f80_0000;
 
-// The exponent that `rounded` takes for units: even, and so large that no exponent is below 0.
+// The e at which `rounded` takes m itself for units. It is even, so that e is odd just where e − 24 is, and no less than 23, the most that a subnormal
+// number is shifted, so that no e is below 0.
 const ORIGIN: u32 = 24;
 
-// The numbers of `guessed`: its curve, 1.0116 + 0.4283 * v + 1.5262 * v^3, and 3.0002 and 2.99999999 for the 3 of its two steps, each in the unit of its place.
-const LEVEL: u32 = 0x77e3_ce45;
-
-const SLOPE: u32 = 0x32c3_ac7a;
-
-const BEND: u32 = 0xb4de_fd24;
-
-const FIRST_THREE: u32 = 0xa49a_10b5;
-
-const SECOND_THREE: u32 = 0x1e3c_f474;
-
-// a * b, in full.
-fn product(a: u32, b: u32) -> u64
-    ensures { λ r. ⌜ r ≡ a * b ⌝ }
-{
-    (a as u64) * (b as u64)
-}
-
-// The upper half of a * b.
-fn upper(a: u32, b: u32) -> u32
-    ensures { λ r. ⌜ r ≡ a * b / 2 ^ 32 ⌝ }
-{
-    (product(a, b) >> 32) as u32
-}
-
-// A guess at the root of d * 2^18, cut to a whole number: right for every d that `rounded` asks for. No contract says so: `is_root` checks it.
+// The f32 nearest to the root of m × 2^(e − 24) units, for an m of 24 digits, from 2^23 to 2^24 − 1. 277 is the e of the largest numbers.
 //
-// For t = d / 2^32, `inverse` is near 1 / sqrt t, by a curve over v = 1 - t within 12 parts in 1000, and `near`, t * inverse, is near sqrt t.
-// Newton's step multiplies both by (3 - near * inverse) / 2, and leaves about the square of the error: of either sign after the first, for a number a little above 3; below zero and less than one after the second, for a number a little below.
-// The unit of `inverse` is 2^-(278 / 9): so every product is cut to its upper half, and the last one has the unit 2^-58.
-fn guessed(d: u32) -> u32 {
-    let v = u32::MAX - d;
-    let bent = upper(upper(v, v), upper(BEND, v));
-    let inverse = wrapping_add_u32(wrapping_add_u32(LEVEL, upper(SLOPE, v)), bent);
-    let near = upper(d, inverse);
-    let step = wrapping_sub_u32(FIRST_THREE, upper(near, inverse));
-    let nearer = upper(near, step);
-    let last = wrapping_sub_u32(SECOND_THREE, upper(nearer, upper(inverse, step)));
-    let low = (product(nearer, last) >> 33) as u32;
-    let next = low + 1;
-    if product(next, next) <= (d as u64) << 18 {
-        next
-    } else {
-        low
-    }
-}
-
-// Whether g is the root of d * 2^18, cut to a whole number: what its square leaves is less than what the next square takes more.
-fn is_root(g: u32, d: u32) -> bool
-    ensures { λ r. ⌜ (r ≡ true → (g * g ≤ d * 2 ^ 18) × (d * 2 ^ 18 < (g + 1) * (g + 1))) × ((g * g ≤ d * 2 ^ 18) × (d * 2 ^ 18 < (g + 1) * (g + 1)) → r ≡ true) ⌝ }
-{
-    let n = (d as u64) << 18;
-    let s = product(g, g);
-    s <= n && n - s < 2 * (g as u64) + 1
-}
-
-// What is taken from `part`: `trial`, where that goes into it.
-fn taken(trial: u32, part: u32) -> u32
-    ensures { λ r. ⌜ (trial ≤ part → r ≡ trial) × (part < trial → r ≡ 0) ⌝ }
-{
-    if trial <= part { trial } else { 0 }
-}
-
-// The root's next digit: 1 where `trial` goes into `part`.
-fn digit(trial: u32, part: u32) -> u32
-    ensures { λ r. ⌜ (trial ≤ part → r ≡ 1) × (part < trial → r ≡ 0) ⌝ }
-{
-    if trial <= part { 1 } else { 0 }
-}
-
-// The root of d * 2^18, cut to a whole number, one binary digit of it a turn.
+// The root of a units is, in units, the root of a × 2^149: here the root of m × 2^(e + 125). With h for the half of e, cut to a whole number, e + 125 is
+// 25 + 2 × (h + 50), or 26 + 2 × (h + 50) for an odd e. So the root has two factors: the root of m × 2^25, or of m × 2^26 for an odd e; and 2^(h + 50).
 //
-// `root` is the whole root of the digits of d that were brought down so far, and `rem` what its square leaves of them: rem <= 2 * root, or the root would be larger.
-// A turn brings two digits more down, part = 4 * rem + those two. The root's next digit is 1 where the square of 2 * root + 1 is not too large.
-// That square is 4 * root * root + trial, with trial = 4 * root + 1: so the digit is 1 where trial <= part, and then trial is taken off.
-fn digit_by_digit(d: u32) -> u32
-    ensures { λ r. ⌜ (r * r ≤ d * 2 ^ 18) × (d * 2 ^ 18 < (r + 1) * (r + 1)) ⌝ }
-{
-    let mut rest = d;
-    let mut rem: u32 = 0;
-    let mut root: u32 = 0;
-    let mut left: u32 = 25;
-    while 0 < left {
-        let part = (rem << 2) | (rest >> 30);
-        let trial = (root << 2) | 1;
-        rest = rest << 2;
-        rem = part - taken(trial, part);
-        root = (root << 1) | digit(trial, part);
-        left -= 1;
-    }
-    root
-}
-
-// The root of d * 2^18, cut to a whole number: the guess, if the check says that it is the root, else the root by its digits. No d of `rounded` needs the digits, but no proof rests on that.
-fn whole_root(d: u32) -> u32
-    ensures { λ r. ⌜ (r * r ≤ d * 2 ^ 18) × (d * 2 ^ 18 < (r + 1) * (r + 1)) ⌝ }
-{
-    let g = guessed(d);
-    if is_root(g, d) {
-        return g;
-    }
-    digit_by_digit(d)
-}
-
-// The value nearest to the root of m * 2^(e - 24) units, for an m with all 24 digits. 277 is the e of the largest numbers.
+// n is the first factor, cut to a whole number; `whole_root` counts in 2^24, so it is handed m × 2 or m × 4. n has 25 digits, one more than an f32 keeps: as
+// m × 2^25 is at least 2^48, n is at least 2^24. q is n without the last digit, rounded up where that is 1. (The example above, to five digits: 1.01101
+// becomes 1.0111, 1.4375 in decimal.) The root is never halfway between two values, for then it would be n, and n odd; but the square of an odd number is
+// odd, and the number under the root is even. Nor does q grow to 25 digits: m × 2^26 is at most 2^50 − 2^26, below the square of 2^25 − 1, so n + 1 is below
+// 2^25.
 //
-// That root is the root of m * 2^25, or of m * 2^26 for an odd e, times 2^(e / 2 + 50) units. n is the first factor cut to a whole number. It has a digit more than a value keeps,
-// and that digit says whether to round up, since a root is never halfway. So the value is q * 2^(e / 2 + 51) units, and its exponent's field e / 2 + 52.
+// The f32 is q × 2^(h + 51) units: its field is h + 52, and its fraction is q without the leading 1.
 fn rounded(m: u32, e: u32) -> f32
     requires { ⌜ (hid binary32 ≤ m) × (m < 2 ^ prec binary32) × (e ≤ 277) ⌝ }
     ensures { λ r. ⌜ ((a : ℕ) → a * 2 ^ 24 ≡ m * 2 ^ e → Nearest binary32 a r) ⌝ }
 {
-    let n = whole_root(m << (7 + (e & 1)));
+    let n = whole_root(m << (1 + (e & 1)));
     let q = (n + 1) >> 1;
     f32::from_bits((((e >> 1) + 52) << FRACTION_BITS) | (q & FRACTION))
 }
 
-// The root of a finite number above zero, by its bit pattern. A subnormal number is shifted until its leading digit stands where that of a normal one does, after 8 zeros.
+// The root of a finite number above zero, by its bit pattern. One with a field f that is not 0 is m × 2^(f − 1) units, so that e is f + 23. A subnormal
+// number is shifted until its leading 1 stands where that of the others does, behind 8 zeros, and e is less by as much.
 fn positive(bits: u32) -> f32
     requires { ⌜ (0 < bits) × (bits < ones binary32 * hid binary32) ⌝ }
     ensures { λ r. ⌜ r ≡ rootOf binary32 (ofBits binary32 bits) ⌝ }
@@ -157,7 +129,8 @@ fn positive(bits: u32) -> f32
     rounded(fraction | LEADING, field + (ORIGIN - 1))
 }
 
-// The square root of x, rounded to nearest, ties to even (IEEE 754): a NaN of a number below zero, and x itself of a NaN, of a zero and of +infinity.
+// The square root of x, rounded to nearest, ties to even (IEEE 754): x itself for a NaN, a zero and +infinity, a NaN for a number below zero, −infinity
+// among them.
 pub fn root(x: f32) -> f32
     ensures { λ r. ⌜ r ≡ rootOf binary32 x ⌝ }
 {
@@ -169,7 +142,9 @@ pub fn root(x: f32) -> f32
         return x;
     }
     if bits >> SIGN_BIT == 1 {
-        return 0.0 / 0.0;
+        // infinity less infinity is a NaN
+        let infinity = f32::from_bits(INFINITY);
+        return infinity - infinity;
     }
     if bits >= INFINITY {
         return x;

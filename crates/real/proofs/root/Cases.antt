@@ -9,7 +9,7 @@ use lib.Dec.{T, leb, eqb, le→leb, eqb-refl, lit≤}
 use lib.Pow.{pow-add, pow-pos, pow-mono}
 use lib.Count.{leadingZeros, leading-top}
 use lib.Bits.{bitAnd, bitOr, and-mask, or-shifted-r}
-use lib.Ieee.{Float, nan, inf, fin, Format, binary32, binary64, prec, low, hid, ones, top, odd, isNan, ne, div, ofFields, ofBits}
+use lib.Ieee.{Float, nan, inf, fin, Format, binary32, binary64, prec, low, hid, ones, top, odd, isNan, ne, sub, ofFields, ofBits}
 use lib.Ieee.Bits.{is-true, ofBits-fits}
 use lib.Ieee.Compare.{differs-from-itself, nan-differs}
 use lib.Ieee.Exact.{HasValue, odd-sign}
@@ -75,15 +75,16 @@ negative-fields f (suc x) t h = go (eqb (suc x) (ones f)) (eqb t 0)
     go true false = unfold rootOf in refl
     go false q = below-zero f (odd (prec f) true (hid f + t) x (low f)) ((hid f + t) * 2 ^ x) (unit f) (odd-sign (prec f) true (hid f + t) x (low f)) (mul-pos (lt-of-lt-of-le (pow-pos (prec f - 1)) (le-add-right (hid f) t)) (pow-pos x))
 
-pub of-negative : (f : Format) (b : ℕ) → (bitAnd b (top f - 1) ≡ 0 → ⊥) → b / top f ≡ 1 → div f (ofBits f 0) (ofBits f 0) ≡ rootOf f (ofBits f b)
+pub of-negative : (f : Format) (b : ℕ) → (bitAnd b (top f - 1) ≡ 0 → ⊥) → b / top f ≡ 1 → sub f (ofBits f (ones f * hid f)) (ofBits f (ones f * hid f)) ≡ rootOf f (ofBits f b)
 of-negative f b h s =
-    zero-over-zero f
+    no-number f
     ∙ negative-fields f (b % top f / hid f) (b % hid f) (some-digit f (λ (z : b % top f ≡ 0). h (magnitude f b ∙ z)))
     ∙ ap (rootOf f) (sym (ofBits-is f b ∙ ap (λ (p : Bool). ofFields f p (b % top f / hid f) (b % hid f)) (is-true (leb (top f) b) (le→leb (top f) b (sign-set f s)))))
   where
-    zero-over-zero : (f : Format) → div f (ofBits f 0) (ofBits f 0) ≡ nan
-    zero-over-zero binary32 = unfold div ofBits in refl
-    zero-over-zero binary64 = unfold div ofBits in refl
+    -- an infinity less an infinity
+    no-number : (f : Format) → sub f (ofBits f (ones f * hid f)) (ofBits f (ones f * hid f)) ≡ nan
+    no-number binary32 = unfold sub ofBits in refl
+    no-number binary64 = unfold sub ofBits in refl
 
     sign-set : (f : Format) → b / top f ≡ 1 → top f ≤ b
     sign-set binary32 h = omega arith

@@ -2,7 +2,7 @@
 use mathlib.Core.Path.{_≡_, refl, sym, ap, _∙_, subst}
 use mathlib.Core.Bool.{false, not}
 use Prim.Native.Nat.{ℕ, suc, _+_, _-_, _*_, _/_, _%_, _^_, _≤_, _<_}
-use native.Mathlib.Nat.{le-trans, le-of-eq, lt-of-le-of-lt, mul-assoc, mul-left-comm, mul-le-mul, mod-eq-of-lt, pow-succ'}
+use native.Mathlib.Nat.{le-trans, le-of-eq, lt-of-le-of-lt, mul-assoc, mul-left-comm, mul-le-mul, mul-le-mul-left, mod-eq-of-lt, pow-succ'}
 use native.Mathlib.Omega.{arith}
 use lib.Dec.{T, lit<, lit≤}
 use lib.Arith.{digits-lt}
@@ -30,18 +30,10 @@ abbrev pub limit : Format → ℕ
 limit binary32 = 277
 limit binary64 = 2099
 
--- the bits of a word, the zeros that the argument gets in it, and those that `whole_root` puts after it
+-- the bits of a word
 abbrev pub width : Format → ℕ
 width binary32 = 32
 width binary64 = 64
-
-abbrev lift : Format → ℕ
-lift binary32 = 7
-lift binary64 = 10
-
-abbrev rest : Format → ℕ
-rest binary32 = 18
-rest binary64 = 44
 
 -- `e & 1`
 pub low-bit : (e : ℕ) → bitAnd e 1 ≡ e % 2
@@ -50,28 +42,35 @@ low-bit e = and-mask e 1
 low-bit-lt : (e : ℕ) → e % 2 < 2
 low-bit-lt e = omega arith
 
--- the number under the root, as the code shifts it, and what it is
-abbrev pub shifted : Format → ℕ → ℕ → ℕ
-shifted f m e = m * 2 ^ (lift f + bitAnd e 1) % 2 ^ width f * 2 ^ rest f
+-- what the code hands to `whole_root`, the number under the root counted in first places, and that number itself
+abbrev pub handed : Format → ℕ → ℕ → ℕ
+handed f m e = m * 2 ^ (1 + bitAnd e 1) % 2 ^ width f
 
 abbrev under : Format → ℕ → ℕ → ℕ
 under f m e = m * 2 ^ (suc (prec f) + e % 2)
 
-shifted-is : (f : Format) (m e : ℕ) → m < 2 ^ prec f → shifted f m e ≡ under f m e
-shifted-is f m e h =
-    let b = e % 2 in
-    ap (λ (x : ℕ). m * 2 ^ (lift f + x) % 2 ^ width f * 2 ^ rest f) (low-bit e)
-    ∙ ap (λ (x : ℕ). x * 2 ^ rest f) (shl-exact {a = m} (prec f) (lift f + b) (width f) h (room f b (low-bit-lt e)))
-    ∙ mul-assoc m (2 ^ (lift f + b)) (2 ^ rest f)
-    ∙ ap (λ (x : ℕ). m * x) (sym (pow-add 2 (lift f + b) (rest f)) ∙ ap (λ (x : ℕ). 2 ^ x) (sum f b))
-  where
-    room : (f : Format) (b : ℕ) → b < 2 → prec f + (lift f + b) ≤ width f
-    room binary32 b k = omega arith
-    room binary64 b k = omega arith
+module _ (f : Format) (m e : ℕ) (h : m < 2 ^ prec f) where
+  handed-is : handed f m e ≡ m * 2 ^ (1 + e % 2)
+  handed-is = ap (λ (x : ℕ). m * 2 ^ (1 + x) % 2 ^ width f) (low-bit e) ∙ shl-exact {a = m} (prec f) (1 + e % 2) (width f) h (room f)
+    where
+      room : (f : Format) → prec f + (1 + e % 2) ≤ width f
+      room binary32 = omega (arith, low-bit-lt e)
+      room binary64 = omega (arith, low-bit-lt e)
 
-    sum : (f : Format) (b : ℕ) → lift f + b + rest f ≡ suc (prec f) + b
-    sum binary32 b = omega arith
-    sum binary64 b = omega arith
+  pub handed-lt : handed f m e < 4 * 2 ^ prec f
+  handed-lt = lt-of-le-of-lt (le-trans (le-of-eq handed-is) (mul-le-mul-left m (pow-mono (most (e % 2) (low-bit-lt e))))) (omega (arith, h))
+    where
+      most : (b : ℕ) → b < 2 → 1 + b ≤ 2
+      most b k = omega arith
+
+  under-is : handed f m e * 2 ^ prec f ≡ under f m e
+  under-is =
+      ap (λ (x : ℕ). x * 2 ^ prec f) handed-is
+      ∙ mul-assoc m (2 ^ (1 + e % 2)) (2 ^ prec f)
+      ∙ ap (λ (x : ℕ). m * x) (sym (pow-add 2 (1 + e % 2) (prec f)) ∙ ap (λ (x : ℕ). 2 ^ x) (sum (prec f) (e % 2)))
+    where
+      sum : (p b : ℕ) → 1 + b + p ≡ suc p + b
+      sum p b = omega arith
 
 -- ---- how many digits the root has
 module _ (f : Format) (m e n : ℕ) where
@@ -103,8 +102,8 @@ module _ (f : Format) (m e n : ℕ) where
       last binary32 n h = omega arith
       last binary64 n h = omega arith
 
-pub root-fits : (f : Format) (m e n : ℕ) → m < 2 ^ prec f → n * n ≤ shifted f m e → n + 1 < 2 * 2 ^ prec f
-root-fits f m e n h l = root-le f m e n h (le-trans l (le-of-eq (shifted-is f m e h)))
+pub root-fits : (f : Format) (m e n : ℕ) → m < 2 ^ prec f → n * n ≤ handed f m e * 2 ^ prec f → n + 1 < 2 * 2 ^ prec f
+root-fits f m e n h l = root-le f m e n h (le-trans l (le-of-eq (under-is f m e h)))
 
 -- ---- the pattern: the rounded root without its leading digit, under the exponent
 -- how many digits of the root stand after the n that are worked out
@@ -174,12 +173,12 @@ zeros f a m e h =
     exponent binary64 e = omega arith
 
 -- ---- n is what `whole_root` returns
-module _ (f : Format) (m e n : ℕ) (lo : hid f ≤ m) (hi : m < 2 ^ prec f) (E : e ≤ limit f) (l : n * n ≤ shifted f m e) (u : shifted f m e < (n + 1) * (n + 1)) where
+module _ (f : Format) (m e n : ℕ) (lo : hid f ≤ m) (hi : m < 2 ^ prec f) (E : e ≤ limit f) (l : n * n ≤ handed f m e * 2 ^ prec f) (u : handed f m e * 2 ^ prec f < (n + 1) * (n + 1)) where
   lower : n * n ≤ under f m e
-  lower = le-trans l (le-of-eq (shifted-is f m e hi))
+  lower = le-trans l (le-of-eq (under-is f m e hi))
 
   upper : under f m e < (n + 1) * (n + 1)
-  upper = lt-of-le-of-lt (le-of-eq (sym (shifted-is f m e hi))) u
+  upper = lt-of-le-of-lt (le-of-eq (sym (under-is f m e hi))) u
 
   pub is-nearest : (a : ℕ) → a * 2 ^ origin f ≡ m * 2 ^ e → Nearest f a (ofBits f (pattern f e n))
   is-nearest a h =

@@ -2,7 +2,7 @@
 use mathlib.Core.Path.{_≡_, sym, subst, ap, _∙_}
 use Prim.Native.Nat.{ℕ}
 use lib.Dec.{T}
-use lib.Ieee.{Float, binary32, fits, ofBits, toBits}
+use lib.Ieee.{Float, binary32, fits, ofBits, toBits, nanBits}
 use lib.Ieee.Bits.{ofBits-toBits, toBits-lt}
 use Rattle.real.specs.Root.{rootOf}
 use Rattle.real.proofs.root.Cases.{of-nan, no-nan, of-zero, of-negative, of-top, is-positive}
@@ -31,6 +31,10 @@ float-to-bits-bits c = no-nan (c .before .args .x) (c .if1 .left)
 returns-2 : tie.Need-returns-2
 returns-2 c = let s = c .before .before in same s (of-zero binary32 (bits s) (c .if2 .taken))
 
+float-from-bits-infinity : tie.Need-float-from-bits-infinity
+unfolding nanBits
+float-from-bits-infinity c = tt
+
 returns-3 : tie.Need-returns-3
 returns-3 c = let s = c .before .before .before in read s _ (of-negative binary32 (bits s) (c .before .if2 .left) (c .if3 .taken))
 
@@ -46,4 +50,4 @@ returns-5 c =
     read (at-if1 .before) _ (c .positive .ensures)
 
 pub root-spec : {M : Type 1} → statement M
-root-spec = tie.close (tie.spec returns float-to-bits-bits returns-2 returns-3 returns-4 positive-requires returns-5)
+root-spec = tie.close (tie.spec returns float-to-bits-bits returns-2 float-from-bits-infinity returns-3 returns-4 positive-requires returns-5)
