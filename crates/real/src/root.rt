@@ -26,10 +26,10 @@ const FIRST_PLACE: u32 = 0x100_0000;
 // The next place is half as large, so the remainder then doubles. Of the root only the double is asked for, so that is what is kept, as `twice`: a digit 1
 // makes it trial + place, and at the end it is halved.
 //
-// Before every turn root² + remainder × place is the number, and (root + 2 place)² is more than the number. At the start the root is 0 and 2 place is 2^25,
-// whose square is 2^50. A place is two of the next: so a digit 1 leaves root + 2 place as it was, and a digit 0 makes it root + place, whose square is more
-// than the number, since the digit would be 1 otherwise. After the last turn the next place would be a half (`place` itself is cut to 0, which ends the
-// loop): so root² is not more than the number, and (root + 1)² is.
+// Before every turn root² + remainder × place is the number, and (root + 2 place)² is more than the number: `Holds` in proofs/root/Turns.antt is this
+// sentence. At the start the root is 0 and 2 place is 2^25, whose square is 2^50. A place is two of the next: so a digit 1 leaves root + 2 place as it was,
+// and a digit 0 makes it root + place, whose square is more than the number, since the digit would be 1 otherwise. After the last turn the next place would
+// be a half (`place` itself is cut to 0, which ends the loop): so root² is not more than the number, and (root + 1)² is.
 //
 // By hand, the root of 2 to six digits. It is the root of 2048, cut to a whole number, with the point five digits further left, since 2048 is 2 × 32 × 32.
 // The first place is 32, and 2048 is 64 × 32:
@@ -101,8 +101,8 @@ const ORIGIN: u32 = 24;
 // n is the first factor, cut to a whole number; `whole_root` counts in 2^24, so it is handed m × 2 or m × 4. n has 25 digits, one more than an f32 keeps: as
 // m × 2^25 is at least 2^48, n is at least 2^24. q is n without the last digit, rounded up where that is 1. (The example above, to five digits: 1.01101
 // becomes 1.0111, 1.4375 in decimal.) The root is never halfway between two values, for then it would be n, and n odd; but the square of an odd number is
-// odd, and the number under the root is even. Nor does q grow to 25 digits: m × 2^26 is at most 2^50 − 2^26, below the square of 2^25 − 1, so n + 1 is below
-// 2^25.
+// odd, and the number under the root is even. Nor does q grow to 25 digits: m × 2^26 is at most 2^50 − 2^26, below the square of 2^25 − 1, so that n + 1 is
+// below 2^25.
 //
 // The f32 is q × 2^(h + 51) units: its field is h + 52, and its fraction is q without the leading 1.
 fn rounded(m: u32, e: u32) -> f32
