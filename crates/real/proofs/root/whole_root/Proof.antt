@@ -15,6 +15,12 @@ abbrev μ-loop : tie.MeasureT-loop
 loop-holds : tie.Need-loop-holds Inv-loop μ-loop
 loop-holds c = begins 24 (c .args .places) (c .pre)
 
+-- before the needs of the subtraction and of the sums: with another test or trial it is the turn that is false, and these may still hold
+loop-again : tie.Need-loop-again Inv-loop μ-loop
+loop-again c =
+    let at = c .before .before .before .loop in
+    turn _ (2 ^ 25) (at .remainder) (at .twice) (at .place) (at .inv) (2 ^ 32) (lit≤ tt) (omega (arith, c .before .before .loop-test .taken)) _ _ (c .before .by-digit .ensures) (c .by-digit2 .ensures)
+
 add-trial : tie.Need-add-trial Inv-loop μ-loop
 add-trial c = let at = c .before .loop in omega (arith, twice-le _ _ _ _ _ (at .inv))
 
@@ -28,11 +34,6 @@ add-by-digit c = let at = c .before .before .loop in omega (arith, twice-le _ _ 
 
 loop-less : tie.Need-loop-less Inv-loop μ-loop
 loop-less c = omega arith
-
-loop-again : tie.Need-loop-again Inv-loop μ-loop
-loop-again c =
-    let at = c .before .before .before .loop in
-    turn _ (2 ^ 25) (at .remainder) (at .twice) (at .place) (at .inv) (2 ^ 32) (lit≤ tt) (omega (arith, c .before .before .loop-test .taken)) _ _ (c .before .by-digit .ensures) (c .by-digit2 .ensures)
 
 returns : tie.Need-returns Inv-loop μ-loop
 returns c =
