@@ -20,7 +20,7 @@ use Rattle.refusals.specs.After.{After, after, settled, marked}
 use Rattle.drive.specs.declared.Driven.{Driven}
 use Rattle.early.specs.Early.{earlyTests}
 
--- ---- the refusals, in the order 1, 5, 6, 2, 10 (crate `early`), 7, 8. `r` is what the drive is given, n how many ray answers it has
+-- ---- the refusals, in the order 1, 5, 6, 2, 12, 10 (crate `early`), 7, 8. `r` is what the drive is given, n how many ray answers it has
 -- the tests of the step itself, under the tuning that counts
 unfoldable pub stepTests : Format → (WheelTuning → WheelTuning) → List Float → ℕ → Frame → ℕ → List Test
 stepTests f tune t up r n =

@@ -25,10 +25,10 @@ pub frame-numbered : (t : List Float) (m : List ℕ) (bodies : List Float) (dyna
 unfolding frameTests all pick
 frame-numbered t m bodies dynamic answer n = refl
 
-pub handed-numbered : (t : List Float) (m : List ℕ) (dt : Float) (bodies : List Float) (dynamic : List Bool) (answer : ℕ → RayAnswer) (n : ℕ)
-    → all numbered (frameTests t m bodies dynamic answer n ++ numberTests t dt bodies answer n) ≡ true
+pub handed-numbered : (f : Format) (t : List Float) (m : List ℕ) (dt : Float) (bodies : List Float) (dynamic : List Bool) (answer : ℕ → RayAnswer) (n : ℕ)
+    → all numbered (frameTests t m bodies dynamic answer n ++ numberTests f t dt bodies answer n) ≡ true
 unfolding frameTests numberTests all pick
-handed-numbered t m dt bodies dynamic answer n = refl
+handed-numbered f t m dt bodies dynamic answer n = refl
 
 pub early-numbered : (f : Format) (t : List Float) (m : List ℕ) (r : Frame) (n : ℕ) → all numbered (earlyTests f t m r n) ≡ true
 unfolding earlyTests frameTests numberTests rangeTests all pick
@@ -64,9 +64,9 @@ pub record EarlyTested (f : Format) (t : List Float) (m : List ℕ) (r : Frame) 
   pub unit : inUnit (r .dt) ≡ true
   pub ranges : storedInRange f t n ≡ true
 
-stored-of-numbers : (t : List Float) (dt : Float) (bodies : List Float) (answer : ℕ → RayAnswer) (n : ℕ) → firstFailed (numberTests t dt bodies answer n) ≡ 0 → storedWithin t n ≡ true
+stored-of-numbers : (f : Format) (t : List Float) (dt : Float) (bodies : List Float) (answer : ℕ → RayAnswer) (n : ℕ) → firstFailed (numberTests f t dt bodies answer n) ≡ 0 → storedWithin t n ≡ true
 unfolding numberTests firstFailed
-stored-of-numbers t dt bodies answer n h =
+stored-of-numbers f t dt bodies answer n h =
     let dt = pick-zero _ _ _ h in
     let handed = pick-zero _ _ _ (dt .1) in
     let normals = pick-zero _ _ _ (handed .1) in
@@ -86,5 +86,5 @@ early-tests-say f t m r n h =
     let handed = passed-of-append _ _ h in
     let frame = passed-of-append _ _ handed in
     let numbers = sym (append-passed _ _ (frame-numbered t m (r .bodies) (r .dynamic) (r .answer) n) frame) ∙ handed in
-    let ranges = ranges-say f t _ _ _ n (sym (append-passed _ _ (handed-numbered t m (r .dt) (r .bodies) (r .dynamic) (r .answer) n) handed) ∙ h) in
-    record { frame = frame-tests-say t m _ _ _ n frame; stored = stored-of-numbers t _ _ _ n numbers; unit = ranges .0; ranges = ranges .1 }
+    let ranges = ranges-say f t _ _ _ n (sym (append-passed _ _ (handed-numbered f t m (r .dt) (r .bodies) (r .dynamic) (r .answer) n) handed) ∙ h) in
+    record { frame = frame-tests-say t m _ _ _ n frame; stored = stored-of-numbers f t _ _ _ n numbers; unit = ranges .0; ranges = ranges .1 }

@@ -1,4 +1,4 @@
--- Document 01, "Refusal numbers": the tests of a drive that come before its step, in the order 1, 5, 6, 2, 10. They read what is stored and what is handed in. Definitions only.
+-- Document 01, "Refusal numbers": the tests of a drive that come before its step, in the order 1, 5, 6, 2, 12, 10 (change request 2026-03: "12, after 2 and before 10"). They read what is stored and what is handed in. Definitions only.
 use Prim.Native.Nat.{ℕ, _*_}
 use mathlib.Core.Bool.{Bool}
 use mathlib.Core.List.{List, [], _∷_, _++_}
@@ -15,6 +15,7 @@ use Rattle.ground.specs.Frame.{Frame}
 use Rattle.refusals.specs.Shape.{countOf, markOf, shapeOk}
 use Rattle.ranges.specs.Ranges.{inUnit, chassisInRange, bodiesInRange, storedInRange}
 use Rattle.refusals.specs.Handed.{answersOk, allNormalsHanded}
+use Rattle.refusals.specs.Normals.{allNormalsOk}
 
 -- `r` is what the drive is given, n how many ray answers it has
 unfoldable pub frameTests : List Float → List ℕ → List Float → List Bool → (ℕ → RayAnswer) → ℕ → List Test
@@ -27,12 +28,13 @@ frameTests t m bodies dynamic answer n =
     ∷ answersOk (length dynamic) answer n or 6
     ∷ []
 
-unfoldable pub numberTests : List Float → Float → List Float → (ℕ → RayAnswer) → ℕ → List Test
-numberTests t dt bodies answer n =
+unfoldable pub numberTests : Format → List Float → Float → List Float → (ℕ → RayAnswer) → ℕ → List Test
+numberTests f t dt bodies answer n =
     within HANDED dt or 2
     ∷ allWithin HANDED bodies or 2
     ∷ allNormalsHanded answer n or 2
     ∷ storedWithin t n or 2
+    ∷ allNormalsOk f answer n or 12
     ∷ []
 
 unfoldable pub rangeTests : Format → List Float → Float → List Float → ℕ → ℕ → List Test
@@ -46,5 +48,5 @@ rangeTests f t dt bodies count n =
 unfoldable pub earlyTests : Format → List Float → List ℕ → Frame → ℕ → List Test
 earlyTests f t m r n =
     frameTests t m (r .bodies) (r .dynamic) (r .answer) n
-    ++ numberTests t (r .dt) (r .bodies) (r .answer) n
+    ++ numberTests f t (r .dt) (r .bodies) (r .answer) n
     ++ rangeTests f t (r .dt) (r .bodies) (length (r .dynamic)) n

@@ -1,5 +1,6 @@
-// The tests of a drive that come before its step: refusals 1, 5, 6, 2 and 10.
-use refusals::handed;
+// The tests of a drive that come before its step: refusals 1, 5, 6, 2, 12 and 10.
+use refusals::AnswerTest;
+use refusals::answers;
 use refusals::shape;
 use table::bounds::HANDED;
 use table::layout::*;
@@ -41,13 +42,13 @@ fn refuse_frame(
     if bodies.len() != count * BODY {
         return 6;
     }
-    if !handed::are_answers_ok(count as u32, answers, n) {
+    if !answers::holds_of_all(AnswerTest::AnswerOk(count as u32), answers, n) {
         return 6;
     }
     0
 }
 
-// Refusal 2.
+// Refusals 2 and 12.
 fn refuse_numbers(
     table: &[f32],
     dt: f32,
@@ -56,7 +57,7 @@ fn refuse_numbers(
     n: usize,
 ) -> u32
     requires { ⌜ (length (now table) ≡ at.SIZE) × (n ≤ at.WHEELS) ⌝ }
-    ensures { λ r. ⌜ r ≡ firstFailed (numberTests (now (table .entry)) dt (now (bodies .entry)) (answerAt answers) n) ⌝ }
+    ensures { λ r. ⌜ r ≡ firstFailed (numberTests binary32 (now (table .entry)) dt (now (bodies .entry)) (answerAt answers) n) ⌝ }
 {
     if !real::is_within(HANDED, dt) {
         return 2;
@@ -64,11 +65,14 @@ fn refuse_numbers(
     if !table::bounds::all_within(HANDED, bodies) {
         return 2;
     }
-    if !handed::are_all_normals_handed(answers, n) {
+    if !answers::holds_of_all(AnswerTest::NormalsHanded, answers, n) {
         return 2;
     }
     if !table::bounds::stored_within(table, n) {
         return 2;
+    }
+    if !answers::holds_of_all(AnswerTest::NormalsOk, answers, n) {
+        return 12;
     }
     0
 }
@@ -93,7 +97,7 @@ fn refuse_ranges(table: &[f32], dt: f32, bodies: &[f32], count: usize, n: usize)
     0
 }
 
-// Refusals 1, 5, 6, 2 and 10, in this order.
+// Refusals 1, 5, 6, 2, 12 and 10, in this order.
 pub fn refuse_early(
     table: &[f32],
     whole: &[u32],

@@ -14,7 +14,7 @@ use Rattle.vector.specs.declared.Rotation.{Rotation}
 use Rattle.wheel.specs.declared.Settings.{Settings}
 use Rattle.wheel.specs.declared.Controls.{Controls}
 use Rattle.table.specs.Rows.{wheelAt}
-use Rattle.ranges.specs.Ranges.{inRange, inUnit, notNegative, settingsInRange, sumOfSquares, BAND-LOW, BAND-HIGH, rotationInRange, controlsInRange, wheelInRange, storedInRange}
+use Rattle.ranges.specs.Ranges.{inRange, inUnit, notNegative, settingsInRange, sumOfSquares, BAND-LOW, BAND-HIGH, inBand, rotationInRange, controlsInRange, wheelInRange, storedInRange}
 
 pub record Between (low high x : Float) : Type 0 where
   pub above : le low x ≡ true
@@ -31,7 +31,7 @@ unfolding inUnit
 unit-says x h = range-says zero one x h
 
 pub rotation-says : (f : Format) (q : Rotation) → rotationInRange f q ≡ true → Between BAND-LOW BAND-HIGH (sumOfSquares f q)
-unfolding rotationInRange
+unfolding rotationInRange inBand
 rotation-says f q h = range-says BAND-LOW BAND-HIGH (sumOfSquares f q) h
 
 pub record SettingsRange (s : Settings) : Type 0 where

@@ -42,8 +42,12 @@ BAND-LOW = fin false 1023 (negsuc 9)
 abbrev pub BAND-HIGH : Float
 BAND-HIGH = fin false 1025 (negsuc 9)
 
+-- a normal's sum of squares has the same band (refusal 12)
+unfoldable pub inBand : Float → Bool
+inBand x = inRange BAND-LOW BAND-HIGH x
+
 unfoldable pub rotationInRange : Format → Rotation → Bool
-rotationInRange f q = inRange BAND-LOW BAND-HIGH (sumOfSquares f q)
+rotationInRange f q = inBand (sumOfSquares f q)
 
 -- brake at least 0, and the steering's rotation
 unfoldable pub controlsInRange : Format → Controls → Bool

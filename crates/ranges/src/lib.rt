@@ -9,9 +9,9 @@ ghost use lib.ListN.{length};
 ghost use lib.Ieee.{binary32};
 ghost use Rattle.table.specs.Layout as at;
 ghost use Rattle.lists.specs.All.{all};
-ghost use Rattle.ranges.specs.Ranges.{inRange, inUnit, notNegative, settingsInRange, sumOfSquares, rotationInRange, controlsInRange, chassisInRange, bodiesInRange, wheelInRange, storedInRange};
+ghost use Rattle.ranges.specs.Ranges.{inRange, inUnit, notNegative, settingsInRange, sumOfSquares, inBand, rotationInRange, controlsInRange, chassisInRange, bodiesInRange, wheelInRange, storedInRange};
 
-// 1 - 2^-10 and 1 + 2^-10, of a rotation's sum of squares.
+// 1 - 2^-10 and 1 + 2^-10, of a rotation's sum of squares and of a normal's.
 const BAND_LOW: f32 = 0.9990234375;
 
 const BAND_HIGH: f32 = 1.0009765625;
@@ -82,10 +82,17 @@ fn sum_of_squares(q: Rotation) -> f32
     ((b.x * b.x + b.y * b.y) + b.z * b.z) + q.w * q.w
 }
 
+// Whether a rotation, or a normal, may have this sum of squares.
+pub fn is_in_band(x: f32) -> bool
+    ensures { λ r. ⌜ r ≡ inBand x ⌝ }
+{
+    is_in_range(BAND_LOW, BAND_HIGH, x)
+}
+
 fn is_rotation_in_range(q: Rotation) -> bool
     ensures { λ r. ⌜ r ≡ rotationInRange binary32 q ⌝ }
 {
-    is_in_range(BAND_LOW, BAND_HIGH, sum_of_squares(q))
+    is_in_band(sum_of_squares(q))
 }
 
 pub fn are_controls_in_range(c: Controls) -> bool

@@ -1,16 +1,12 @@
 // Refusals 2 and 6: the numbers that a call is handed, and the ray answers of a drive.
 use body::Chassis;
 use table::bounds::HANDED;
-use table::layout::WHEELS;
 use vector::Vector;
 use wheel::Controls;
 use wheel::RayAnswer;
 use wheel::Settings;
 ghost use mathlib.Core.Path.{_≡_};
-ghost use Prim.Native.Nat.{_≤_};
-ghost use Rattle.wheel.specs.Ray.{answerAt};
-ghost use Rattle.table.specs.Layout as at;
-ghost use Rattle.refusals.specs.Handed.{settingsHanded, controlsHanded, chassisHanded, vectorHanded, normalsHanded, hitOk, answerOk, answersOk, allNormalsHanded};
+ghost use Rattle.refusals.specs.Handed.{settingsHanded, controlsHanded, chassisHanded, vectorHanded, normalsHanded, hitOk, answerOk};
 
 pub fn are_settings_handed(s: Settings) -> bool
     ensures { λ r. ⌜ r ≡ settingsHanded s ⌝ }
@@ -41,7 +37,7 @@ fn is_vector_handed(v: Vector) -> bool
 }
 
 // Refusal 2, of an answer's normals.
-fn are_normals_handed(answer: RayAnswer) -> bool
+pub fn are_normals_handed(answer: RayAnswer) -> bool
     ensures { λ r. ⌜ r ≡ normalsHanded answer ⌝ }
 {
     match answer {
@@ -57,7 +53,7 @@ fn are_normals_handed(answer: RayAnswer) -> bool
 }
 
 // Refusal 6, of one answer, with so many bodies in the list.
-fn is_answer_ok(bodies: u32, answer: RayAnswer) -> bool
+pub fn is_answer_ok(bodies: u32, answer: RayAnswer) -> bool
     ensures { λ r. ⌜ r ≡ answerOk bodies answer ⌝ }
 {
     match answer {
@@ -74,38 +70,4 @@ fn is_hit_ok(bodies: u32, time: f32, named: u32) -> bool
         return false;
     }
     named <= bodies
-}
-
-// Refusal 6, of each of the first n answers.
-pub fn are_answers_ok(bodies: u32, answers: [RayAnswer; WHEELS], n: usize) -> bool
-    requires { ⌜ n ≤ at.WHEELS ⌝ }
-    ensures { λ r. ⌜ r ≡ answersOk bodies (answerAt answers) n ⌝ }
-{
-    let mut i = 0usize;
-    while i < n {
-        let a = answers[i];
-        if is_answer_ok(bodies, a) {
-            i += 1usize;
-        } else {
-            return false;
-        }
-    }
-    true
-}
-
-// Refusal 2, of the normals of each of the first n answers.
-pub fn are_all_normals_handed(answers: [RayAnswer; WHEELS], n: usize) -> bool
-    requires { ⌜ n ≤ at.WHEELS ⌝ }
-    ensures { λ r. ⌜ r ≡ allNormalsHanded (answerAt answers) n ⌝ }
-{
-    let mut i = 0usize;
-    while i < n {
-        let a = answers[i];
-        if are_normals_handed(a) {
-            i += 1usize;
-        } else {
-            return false;
-        }
-    }
-    true
 }

@@ -68,7 +68,7 @@ fn upward_normal(time: f32, normal: Vector, upward: Vector) -> Vector
 }
 
 // Rule 3: whether a hit has no normal of its own.
-fn is_undefined(time: f32, normal: Vector) -> bool
+pub fn is_undefined(time: f32, normal: Vector) -> bool
     ensures { λ r. ⌜ r ≡ isUndefined time normal ⌝ }
 {
     time == 0.0 && is_zero(normal)

@@ -21,10 +21,11 @@ use Rattle.road.specs.Step.{updateRotation}
 use Rattle.table.specs.Rows.{vectorAt, rotationAt, inertiaAt, infoAt, placeAt, tuningAt, settingsAt, controlsAt, approachAt, motionAt, wheelOf, rowOf, wheelAt, putWheel, chassisOf}
 use Rattle.table.specs.Rows.{chassisList, chassisAt, putChassis, bodyOf, bodyAt}
 use Rattle.table.specs.Bounds.{allWithin, storedWithin}
-use Rattle.ranges.specs.Ranges.{inRange, inUnit, notNegative, settingsInRange, sumOfSquares, rotationInRange, controlsInRange, chassisInRange, bodyInRange, bodiesInRange, wheelInRange}
-use Rattle.ranges.specs.Ranges.{storedInRange}
+use Rattle.ranges.specs.Ranges.{inRange, inUnit, notNegative, settingsInRange, sumOfSquares, inBand, rotationInRange, controlsInRange, chassisInRange, bodyInRange, bodiesInRange}
+use Rattle.ranges.specs.Ranges.{wheelInRange, storedInRange}
 use Rattle.refusals.specs.Shape.{sizesOk, axesOk, statusOk, shapeOk}
 use Rattle.refusals.specs.Handed.{settingsHanded, controlsHanded, chassisHanded, vectorHanded, normalsHanded, hitOk, answerOk, answersOk, allNormalsHanded}
+use Rattle.refusals.specs.Normals.{normalOk, hitNormalOk, normalsOk, allNormalsOk}
 use Rattle.refusals.specs.After.{settled}
 use Rattle.ground.specs.Frame.{groundedAt, groundedWheels, groundNamed, groundUnder}
 use Rattle.passes.specs.Passes.{changed, eachWheel, moved, eachMoves, given, eachGives, transformAt, transforms, castAt, casts, suspendAt, suspensions, springAt, springs, directionsIn}
@@ -80,11 +81,11 @@ unfolding vectorAt rotationAt inertiaAt infoAt placeAt tuningAt settingsAt contr
 open-rows = tt
 
 unfoldable pub open-bounds : Unit {0}
-unfolding allWithin storedWithin inRange inUnit notNegative settingsInRange sumOfSquares rotationInRange controlsInRange chassisInRange bodyInRange bodiesInRange wheelInRange storedInRange
+unfolding allWithin storedWithin inRange inUnit notNegative settingsInRange sumOfSquares inBand rotationInRange controlsInRange chassisInRange bodyInRange bodiesInRange wheelInRange storedInRange
 open-bounds = tt
 
 unfoldable pub open-tests : Unit {0}
-unfolding sizesOk axesOk statusOk shapeOk settingsHanded controlsHanded chassisHanded vectorHanded normalsHanded hitOk answerOk answersOk allNormalsHanded settled
+unfolding sizesOk axesOk statusOk shapeOk settingsHanded controlsHanded chassisHanded vectorHanded normalsHanded hitOk answerOk answersOk allNormalsHanded normalOk hitNormalOk normalsOk allNormalsOk settled
 open-tests = tt
 
 unfoldable pub open-springs : Unit {0}

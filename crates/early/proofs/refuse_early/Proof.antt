@@ -34,7 +34,7 @@ unfolding earlyTests
 returns-3 c =
     let passed = append-passed _ _ (frame-numbered _ _ _ _ _ _) (sym (c .before .before .before .before .refuse-frame .ensures) ∙ c .before .before .before .if1 .left) in
     c .refuse-ranges .ensures
-    ∙ sym (append-passed _ _ (handed-numbered _ _ _ _ _ _ _) (passed ∙ sym (c .before .before .refuse-numbers .ensures) ∙ c .before .if2 .left))
+    ∙ sym (append-passed _ _ (handed-numbered _ _ _ _ _ _ _ _) (passed ∙ sym (c .before .before .refuse-numbers .ensures) ∙ c .before .if2 .left))
 
 pub refuse-early-spec : {M : Type 1} → statement M
 refuse-early-spec = tie.close (tie.spec (λ c κs. tt) returns refuse-numbers-requires returns-2 refuse-ranges-requires returns-3)

@@ -3,6 +3,8 @@ use native.Mathlib.Omega.{arith}
 use borrow.Author.Needs.{needs}
 use Rattle.lists.specs.Refusal.{firstFailed}
 use Rattle.lists.proofs.Picks.{picks, told-yes}
+use Rattle.refusals.specs.Handed.{answersOk}
+use Rattle.refusals.specs.Answers.{holdsOf}
 use Rattle.refusals.proofs.Says.{shape-says, place-in-shape}
 use Rattle.early.specs.Early.{frameTests}
 use Rattle.early.proofs.refuse_frame.Statement.{statement}
@@ -39,18 +41,18 @@ returns-5 : tie.Need-returns-5
 unfolding frameTests firstFailed
 returns-5 c = search picks depth 40 fits 4000
 
-are-answers-ok-requires : tie.Need-are-answers-ok-requires
-are-answers-ok-requires c κs =
+holds-of-all-requires : tie.Need-holds-of-all-requires
+holds-of-all-requires c κs =
     let at-if2 = c .before .before .before .before in
     let s = shape-says _ _ (told-yes _ _ (at-if2 .before .before .before .is-shape-ok .ensures) (at-if2 .before .before .if1 .left)) in
     omega arith
 
 returns-6 : tie.Need-returns-6
-unfolding frameTests firstFailed
+unfolding frameTests firstFailed answersOk holdsOf
 returns-6 c = search picks depth 40 fits 4000
 
 returns-7 : tie.Need-returns-7
-unfolding frameTests firstFailed
+unfolding frameTests firstFailed answersOk holdsOf
 returns-7 c = search picks depth 40 fits 4000
 
 pub refuse-frame-spec : {M : Type 1} → statement M
@@ -68,6 +70,6 @@ refuse-frame-spec =
     (λ c. search needs)
     returns-5
     (λ c. search needs)
-    are-answers-ok-requires
+    holds-of-all-requires
     returns-6
     returns-7)

@@ -2,6 +2,9 @@
 use lib.Ieee.{ofBits}
 use Rattle.lists.specs.Refusal.{firstFailed}
 use Rattle.lists.proofs.Picks.{picks}
+use Rattle.refusals.specs.Handed.{allNormalsHanded}
+use Rattle.refusals.specs.Normals.{allNormalsOk}
+use Rattle.refusals.specs.Answers.{holdsOf}
 use Rattle.early.specs.Early.{numberTests}
 use Rattle.early.proofs.refuse_numbers.Statement.{statement}
 use Rattle.early.proofs.refuse_numbers.Tie as tie
@@ -15,16 +18,20 @@ unfolding numberTests ofBits firstFailed
 returns-2 c = search picks depth 40 fits 4000
 
 returns-3 : tie.Need-returns-3
-unfolding numberTests ofBits firstFailed
+unfolding numberTests ofBits firstFailed allNormalsHanded allNormalsOk holdsOf
 returns-3 c = search picks depth 40 fits 4000
 
 returns-4 : tie.Need-returns-4
-unfolding numberTests ofBits firstFailed
+unfolding numberTests ofBits firstFailed allNormalsHanded allNormalsOk holdsOf
 returns-4 c = search picks depth 40 fits 4000
 
 returns-5 : tie.Need-returns-5
-unfolding numberTests ofBits firstFailed
+unfolding numberTests ofBits firstFailed allNormalsHanded allNormalsOk holdsOf
 returns-5 c = search picks depth 40 fits 4000
+
+returns-6 : tie.Need-returns-6
+unfolding numberTests ofBits firstFailed allNormalsHanded allNormalsOk holdsOf
+returns-6 c = search picks depth 40 fits 4000
 
 pub refuse-numbers-spec : {M : Type 1} → statement M
 refuse-numbers-spec =
@@ -38,4 +45,6 @@ refuse-numbers-spec =
     returns-3
     (λ c κs. let at-if1 = c .before .before .before .before in (at-if1 .before .before .before .before .pre .0, at-if1 .before .before .before .before .pre .1))
     returns-4
-    returns-5)
+    (λ c κs. let at-if2 = c .before .before .before .before in at-if2 .before .before .before .before .before .before .pre .1)
+    returns-5
+    returns-6)
