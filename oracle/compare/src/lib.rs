@@ -2,6 +2,7 @@
 #![forbid(unsafe_code)]
 
 mod difference;
+mod normals;
 mod runner;
 mod streams;
 mod tally;

@@ -6,8 +6,10 @@ use std::fmt;
 use vehicle::program::Line;
 use vehicle::table::{ACCEPTED, MALFORMED};
 
-/// The refusal numbers of document 01, 0 included.
-const ANSWERS: std::ops::RangeInclusive<u32> = 0..=10;
+use crate::normals::Normals;
+
+/// The refusal numbers of document 01 and of the change requests, 0 included.
+const ANSWERS: [u32; 12] = [0, 1, 2, 3, 4, 5, 6, 7, 8, 9, 10, 12];
 
 /// Counts over all scenarios.
 #[derive(Clone, Debug, Default)]
@@ -22,6 +24,7 @@ pub struct Tally {
     sliding_unscaled: u64,
     /// Drives in which some wheels slid and others gripped.
     mixed_drives: u64,
+    normals: Normals,
 }
 
 impl Tally {
@@ -30,6 +33,7 @@ impl Tally {
         for line in lines {
             *self.codes.entry((line.code, line.answer)).or_default() += 1;
             self.add_wheels(line);
+            self.normals.add(line);
         }
     }
 
@@ -58,6 +62,7 @@ impl Tally {
         self.sliding += other.sliding;
         self.sliding_unscaled += other.sliding_unscaled;
         self.mixed_drives += other.mixed_drives;
+        self.normals = self.normals.and(other.normals);
         self
     }
 
@@ -86,6 +91,7 @@ impl fmt::Display for Tally {
         for (code, name) in ["end", "add", "controls", "aim", "drive", "read"].iter().enumerate() {
             let code = code as u32;
             let answers: Vec<String> = ANSWERS
+                .into_iter()
                 .map(|answer| (answer, self.count(|c, a| c == code && a == answer)))
                 .filter(|(_, count)| *count > 0)
                 .map(|(answer, count)| format!("{answer}: {count}"))
@@ -102,8 +108,8 @@ impl fmt::Display for Tally {
             self.sliding, self.gripping, self.airborne
         )?;
         writeln!(out, "  sliding with a skid not below 1: {}", self.sliding_unscaled)?;
-        let seen: Vec<String> =
-            ANSWERS.map(|answer| format!("{answer}: {}", self.count(|_, a| a == answer))).collect();
+        write!(out, "{}", self.normals)?;
+        let seen = ANSWERS.map(|answer| format!("{answer}: {}", self.count(|_, a| a == answer)));
         writeln!(out, "answers          {}", seen.join(", "))
     }
 }

@@ -156,6 +156,10 @@ impl Car {
         if random.once_in(4) {
             self.go_to_the_edge_of_grip(random, &controls, &drive);
         }
+        if random.once_in(40) {
+            // A set whose normals are two long: refused, and the frame goes on as if never tried.
+            self.script.drive(with_long_normals(&drive));
+        }
         let driven = self.script.drive(drive);
         if driven.answer != ACCEPTED {
             return false;
@@ -285,6 +289,17 @@ impl Car {
         self.chassis.inverse_inertia =
             turned_inertia(self.chassis.pose.rotation, self.local_inertia);
     }
+}
+
+/// The same drive with every normal twice as long.
+fn with_long_normals(drive: &Drive) -> Drive {
+    let long = |hit: Hit| Hit {
+        normal: hit.normal * 2.0,
+        upward_normal: hit.upward_normal.map(|normal| normal * 2.0),
+        ..hit
+    };
+    let answers = drive.answers.iter().map(|answer| answer.map(long)).collect();
+    Drive { answers, ..drive.clone() }
 }
 
 impl Driver {

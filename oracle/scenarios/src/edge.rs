@@ -6,13 +6,13 @@ use vehicle::program;
 use vehicle::stream::{Code, Token};
 use vehicle::table::{Table, ACCEPTED};
 
-use crate::parts::{near_upright, rotation, Size, MOST};
+use crate::parts::{a_zero, at_an_end, near_upright, rotation, Size, MOST};
 use crate::random::Random;
 use crate::script::{float_places, recoded, stream_of, Script};
 use crate::turning::turn_over;
 
 /// One after the other by seed, so that a few seeds see them all.
-const TEMPLATES: [fn(&mut Random) -> Vec<Code>; 16] = [
+const TEMPLATES: [fn(&mut Random) -> Vec<Code>; 18] = [
     special_numbers,
     boundary,
     grip_at_the_limit,
@@ -21,6 +21,7 @@ const TEMPLATES: [fn(&mut Random) -> Vec<Code>; 16] = [
     range_ends,
     odd_normals,
     boundary,
+    normal_lengths,
     bound_ends,
     denominators,
     marks,
@@ -29,6 +30,7 @@ const TEMPLATES: [fn(&mut Random) -> Vec<Code>; 16] = [
     range_ends,
     fast,
     bound_ends,
+    normal_lengths,
 ];
 
 pub fn scenario(random: &mut Random, seed: u64) -> Vec<u8> {
@@ -334,8 +336,8 @@ fn bound_ends(random: &mut Random) -> Vec<Code> {
     with_changed(codes, place, changed)
 }
 
-/// Zero normals, upward normals, tiny and huge ones, normals along the axle, and normals about
-/// 0.1 off the suspension's right angle.
+/// Zero normals, upward normals, normals along the axle, normals about 0.1 off the suspension's
+/// right angle, and now and then tiny and huge ones.
 fn odd_normals(random: &mut Random) -> Vec<Code> {
     let mut script = Script::new();
     let wheels = 1 + random.below(3);
@@ -353,12 +355,11 @@ fn odd_normals(random: &mut Random) -> Vec<Code> {
         script.aim(chassis);
         let mut drive = plain_drive(wheels);
         for answer in &mut drive.answers {
-            *answer = Some(Hit {
-                time: random.pick(&[0.0, -0.0, 0.0, 0.5, 0.75, 1.0]),
-                normal: odd_normal(random),
-                upward_normal: random.once_in(2).then(|| odd_normal(random)),
-                body: None,
-            });
+            let time = random.pick(&[0.0, -0.0, 0.0, 0.5, 0.75, 1.0]);
+            let is_zero = time == 0.0 && random.once_in(3);
+            let normal = if is_zero { a_zero(random) } else { odd_normal(random) };
+            let upward_normal = random.once_in(2).then(|| odd_normal(random));
+            *answer = Some(Hit { time, normal, upward_normal, body: None });
         }
         script.drive(drive);
         script.read_all();
@@ -367,27 +368,82 @@ fn odd_normals(random: &mut Random) -> Vec<Code> {
 }
 
 fn odd_normal(random: &mut Random) -> Vector {
-    let small = random.pick(&[f32::from_bits(1), 1e-30, 1e-23, 1e-19, 1e-12]);
     let step = random.below(5) as u32;
     let tenth = f32::from_bits((0.1f32).to_bits() + step - 2);
+    // With it and a tenth the sum of squares is 1.
+    let rest = 0.994_987_4;
     let slope = near_upright(random);
-    random.pick(&[
-        Vector::ZERO,
-        Vector::new(-0.0, 0.0, -0.0),
+    let usual = random.pick(&[
         UP,
         -UP,
         Vector::new(0.0, 0.0, 1.0),
         Vector::new(0.0, 0.0, -1.0),
+        Vector::new(rest, tenth, 0.0),
+        Vector::new(0.0, tenth, rest),
+        Vector::new(rest, -tenth, 0.0),
+        slope,
+    ]);
+    if random.once_in(16) {
+        odd_length(random)
+    } else {
+        usual
+    }
+}
+
+/// A normal that is far too short or too long.
+fn odd_length(random: &mut Random) -> Vector {
+    let small = random.pick(&[f32::from_bits(1), 1e-30, 1e-23, 1e-19, 1e-12]);
+    random.pick(&[
         Vector::new(small, 0.0, 0.0),
         Vector::new(0.0, small, small),
         Vector::new(0.0, MOST, 0.0),
         Vector::new(MOST, MOST, MOST),
-        Vector::new(0.9, tenth, 0.0),
-        Vector::new(0.0, tenth, 0.9),
-        Vector::new(0.0, 0.5, 0.0),
-        Vector::new(0.0, 2.0, 0.0),
-        slope,
+        UP * 0.5,
+        UP * 2.0,
     ])
+}
+
+/// One hit at an end of the band of refusal 12, a step past it or far off, or a zero normal at
+/// time 0 and at others; sometimes with a fault of another number beside it.
+fn normal_lengths(random: &mut Random) -> Vec<Code> {
+    let codes = short_drive(random);
+    let mut changed = codes[DRIVE].clone();
+    if let Code::Drive(drive) = &mut changed {
+        let wheel = random.below(drive.answers.len());
+        drive.answers[wheel] = Some(hit_at_the_band(random));
+        if random.once_in(4) {
+            another_fault(random, drive);
+        }
+    }
+    with_changed(codes, DRIVE, changed)
+}
+
+fn hit_at_the_band(random: &mut Random) -> Hit {
+    let time = random.pick(&[0.0, -0.0, f32::from_bits(1), 0.5, 1.0]);
+    let up = random.once_in(2).then_some(-UP);
+    let hit = Hit { time, upward_normal: up, ..plain_hit() };
+    match random.below(8) {
+        0 | 1 => Hit { normal: at_an_end(random), ..hit },
+        2 | 3 => Hit { upward_normal: Some(at_an_end(random)), ..hit },
+        4 | 5 => Hit { normal: a_zero(random), ..hit },
+        6 => Hit { upward_normal: Some(a_zero(random)), ..hit },
+        _ => {
+            let odd = odd_length(random);
+            let own = random.pick(&[odd, UP, Vector::ZERO]);
+            let upward = random.pick(&[odd, -UP]);
+            Hit { normal: own, upward_normal: random.once_in(2).then_some(upward), ..hit }
+        }
+    }
+}
+
+/// A fault that refusal 12 comes after, or before: then the order shows.
+fn another_fault(random: &mut Random, drive: &mut Drive) {
+    match random.below(4) {
+        0 => drive.dt = random.pick(&[2.0, -1.0, f32::NAN, out(MOST)]),
+        1 => drive.bodies[0].inverse_mass = random.pick(&[-1.0, f32::INFINITY]),
+        2 => drop(drive.answers.pop()),
+        _ => drive.answers[0] = Some(Hit { time: 2.0, ..plain_hit() }),
+    }
 }
 
 /// Inverse inertias at which the sum of denominators is zero, tiny or below zero.
@@ -446,7 +502,7 @@ fn far_away(random: &mut Random) -> Vec<Code> {
         script.aim(chassis);
         let mut drive = plain_drive(1);
         let time = random.pick(&[0.0, 0.0, 1.0, 0.5, f32::from_bits(1)]);
-        let normal = random.pick(&[UP, Vector::ZERO]);
+        let normal = if time == 0.0 { random.pick(&[UP, Vector::ZERO]) } else { UP };
         drive.answers[0] = random.once_in(2).then_some(Hit { time, normal, ..plain_hit() });
         script.drive(drive);
         script.read(0);

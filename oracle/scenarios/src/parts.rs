@@ -2,6 +2,7 @@
 
 use vehicle::handed::{Chassis, Controls, Drive, GroundBody, Hit, NewWheel, RayAnswer};
 use vehicle::math::{Pose, Rotation, Vector};
+use vehicle::ranges::BAND;
 
 use crate::random::Random;
 
@@ -171,20 +172,33 @@ impl Size {
             1 => random.pick(&[-0.0, 1.0, 0.5, f32::from_bits(1), f32::from_bits(0x3F7F_FFFF)]),
             _ => random.unit(),
         };
-        let upright = Vector::new(0.0, 1.0, 0.0);
-        let normal = |random: &mut Random| match random.below(8) {
-            0 => Vector::ZERO,
-            1..=3 => upright,
-            4 | 5 => near_upright(random),
-            _ => self.direction(random),
-        };
+        let once_in = if time == 0.0 { 2 } else { 64 };
+        let normal = if random.once_in(once_in) { a_zero(random) } else { self.normal(random) };
         let body = if bodies > 0 && random.below(3) > 0 {
             Some(random.below(bodies) as u32)
         } else {
             None
         };
-        let upward_normal = if random.once_in(3) { Some(-normal(random)) } else { None };
-        Some(Hit { time, normal: normal(random), upward_normal, body })
+        let upward_normal = match random.below(192) {
+            0 => Some(a_zero(random)),
+            1..=64 => Some(-self.normal(random)),
+            _ => None,
+        };
+        Some(Hit { time, normal, upward_normal, body })
+    }
+
+    /// The ground's normal. Most have unit length, some lie at an end of their band, a few are two
+    /// long or of any length.
+    fn normal(self, random: &mut Random) -> Vector {
+        match random.below(48) {
+            0 => self.vector(random),
+            1 => near_upright(random) * 2.0,
+            2 | 3 => at_an_end(random),
+            4..=23 => Vector::new(0.0, 1.0, 0.0),
+            24..=37 => near_upright(random),
+            38..=42 => along_an_axis(random),
+            _ => unit_vector(random),
+        }
     }
 
     pub fn drive(self, random: &mut Random, wheels: usize) -> Drive {
@@ -231,6 +245,30 @@ fn along_an_axis(random: &mut Random) -> Vector {
 fn unit_vector(random: &mut Random) -> Vector {
     let mut part = || random.between(-1.0, 1.0);
     Vector::new(part(), part(), part()).normalize_or_zero()
+}
+
+/// The zero vector, with zeros of either sign.
+pub fn a_zero(random: &mut Random) -> Vector {
+    let mut part = || random.pick(&[0.0, 0.0, -0.0]);
+    Vector::new(part(), part(), part())
+}
+
+/// A normal whose sum of squares is exactly an end of its band, or the next float to either side.
+pub fn at_an_end(random: &mut Random) -> Vector {
+    let end = random.pick(&[1.0 - BAND, 1.0 + BAND]);
+    let wanted = f32::from_bits(end.to_bits() + random.below(3) as u32 - 1);
+    for _ in 0..100 {
+        let unit = if random.once_in(2) { near_upright(random) } else { unit_vector(random) };
+        let mut parts = (unit * wanted.sqrt()).parts();
+        let part = &mut parts[random.below(3)];
+        *part = f32::from_bits((part.to_bits() + random.below(9) as u32).wrapping_sub(4));
+        let normal = Vector::new(parts[0], parts[1], parts[2]);
+        if normal.dot(normal) == wanted {
+            return normal;
+        }
+    }
+    // None was met: one that is not at an end, which the tally then does not count.
+    near_upright(random)
 }
 
 /// A ground normal on a slope of up to about one in two.

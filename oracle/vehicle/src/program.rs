@@ -2,6 +2,7 @@
 
 use std::fmt::Write;
 
+use crate::handed::Hit;
 use crate::stream::{Code, Malformed, Reader};
 use crate::table::{Grip, Table, ACCEPTED, MALFORMED};
 
@@ -17,11 +18,13 @@ pub struct Line {
     pub results: Vec<u32>,
     /// How an accepted drive went for each wheel; not printed.
     pub grips: Vec<Grip>,
+    /// What the rays of a drive met, accepted or not; not printed.
+    pub hits: Vec<Hit>,
 }
 
 impl Line {
     fn plain(code: u32, answer: u32) -> Line {
-        Line { code, answer, results: Vec::new(), grips: Vec::new() }
+        Line { code, answer, results: Vec::new(), grips: Vec::new(), hits: Vec::new() }
     }
 
     /// A code's line; the results of a refused call are zeros and are not shown.
@@ -60,7 +63,8 @@ pub fn call(table: &mut Table, code: &Code) -> Line {
             let mut results = words(&driven.linear.parts());
             results.extend(words(&driven.angular.parts()));
             results.push(u32::from(driven.wake));
-            Line { grips: driven.grips, ..Line::with_results(4, driven.answer, results) }
+            let hits = drive.answers.iter().flatten().copied().collect();
+            Line { grips: driven.grips, hits, ..Line::with_results(4, driven.answer, results) }
         }
         Code::Read(wheel) => {
             let read = table.read_wheel(*wheel);

@@ -1,7 +1,7 @@
-//! The bounds of refusal 2 and 7 and 8, and the ranges of refusal 10.
+//! The bounds of refusal 2 and 7 and 8, the ranges of refusal 10, and the band of refusal 12.
 
-use crate::handed::{Chassis, Controls, GroundBody, NewWheel};
-use crate::math::{Real, Rotation};
+use crate::handed::{Chassis, Controls, GroundBody, Hit, NewWheel};
+use crate::math::{Real, Rotation, Vector};
 use crate::row::{self, Row};
 
 /// 2^20: the greatest magnitude of a number handed in.
@@ -12,8 +12,8 @@ pub const MOST_STORED: Real = 1_099_511_627_776.0;
 pub const LEAST_INVERSE_MASS: Real = 1.0 / 1_048_576.0;
 /// 2^20: the greatest inverse mass of a chassis.
 pub const MOST_INVERSE_MASS: Real = 1_048_576.0;
-/// 2^-10: how far a rotation's sum of squares may lie from 1.
-pub const ROTATION_BAND: Real = 1.0 / 1024.0;
+/// 2^-10: how far the sum of squares of a rotation, or of a normal, may lie from 1.
+pub const BAND: Real = 1.0 / 1024.0;
 
 /// Finite and not above 2^20 in magnitude. NaN fails both comparisons.
 pub fn may_be_handed_in(number: Real) -> bool {
@@ -36,8 +36,27 @@ pub fn at_least_zero(number: Real) -> bool {
 }
 
 /// The sum of squares lies in the band around 1.
+pub fn in_band(sum_of_squares: Real) -> bool {
+    lies_between(1.0 - BAND, sum_of_squares, 1.0 + BAND)
+}
+
 pub fn rotation_in_range(rotation: Rotation) -> bool {
-    lies_between(1.0 - ROTATION_BAND, rotation.sum_of_squares(), 1.0 + ROTATION_BAND)
+    in_band(rotation.sum_of_squares())
+}
+
+/// A normal's sum of squares is its dot with itself.
+pub fn normal_in_range(normal: Vector) -> bool {
+    in_band(normal.dot(normal))
+}
+
+/// The zero normal at time 0, which need not lie in the band; both zeros are zero.
+pub fn is_exempt(hit: &Hit) -> bool {
+    hit.time == 0.0 && hit.normal == Vector::ZERO
+}
+
+/// Refusal 12 looks at both normals of a hit, at the upward one whatever the time.
+pub fn normals_in_range(hit: &Hit) -> bool {
+    (is_exempt(hit) || normal_in_range(hit.normal)) && hit.upward_normal.is_none_or(normal_in_range)
 }
 
 /// The settings that an added wheel hands in.

@@ -1,14 +1,14 @@
 //! The calls of document 01 over a lent table, with their refusals, written from 01's text.
 //!
 //! A refusal answers its number, zeros elsewhere, and changes nothing. The tests stand in 01's
-//! order: 1, 3, 4, 5, 6, 2, 10, 7, 8. The steps themselves come from running the Rust source.
+//! order, with that of change request 2026-03: 1, 3, 4, 5, 6, 2, 12, 10, 7, 8. The steps themselves come from running the Rust source.
 
 use crate::geometry::Ray;
 use crate::handed::{Chassis, Controls, Drive, Hit, NewWheel, RayAnswer};
 use crate::math::{Real, Vector};
 use crate::ranges::{
     body_in_range, chassis_in_range, controls_in_range, dt_in_range, lies_between,
-    may_be_handed_in, may_be_stored, new_wheel_in_range, row_in_range,
+    may_be_handed_in, may_be_stored, new_wheel_in_range, normals_in_range, row_in_range,
 };
 use crate::row::{self, Row, CHASSIS, ROW, TABLE, WHEELS};
 use crate::step::{self, Outcome, Step};
@@ -34,6 +34,8 @@ pub const BAD_RESULT: u32 = 8;
 pub const MALFORMED: u32 = 9;
 /// A setting out of its range.
 pub const OUT_OF_RANGE: u32 = 10;
+/// A normal of the wrong length.
+pub const BAD_NORMAL: u32 = 12;
 
 /// Ground bodies that a drive may list.
 pub const BODIES: usize = 64;
@@ -289,6 +291,8 @@ impl Table {
             BAD_ANSWERS
         } else if !self.numbers_are_fit(&numbers_of_drive(drive)) {
             BAD_NUMBER
+        } else if !drive.answers.iter().flatten().all(normals_in_range) {
+            BAD_NORMAL
         } else if !dt_in_range(drive.dt)
             || !drive.bodies.iter().all(body_in_range)
             || !chassis_in_range(&self.chassis())

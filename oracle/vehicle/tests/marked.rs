@@ -18,10 +18,10 @@ fn case_2_root_of_the_least_number() {
     assert_eq!(f32::from_bits(0x0000_0001).sqrt().to_bits(), 0x1A35_04F3);
 }
 
-/// The normal (0, n, 0) has the dot −n with the direction.
+/// The normal (0, 1, 0) has the dot −n with the direction (0, −n, 0).
 fn inverse_for(n: f32) -> f32 {
-    let normal = Vector::new(0.0, n, 0.0);
-    row_after(wheel(), controls(), chassis(), Hit { normal, ..hit() }).0[row::CLIPPED_INVERSE]
+    let wheel = NewWheel { direction: Vector::new(0.0, -n, 0.0), ..wheel() };
+    row_after(wheel, controls(), chassis(), hit()).0[row::CLIPPED_INVERSE]
 }
 
 #[test]

@@ -198,6 +198,59 @@ fn numbers_of_a_drive() {
     }
 }
 
+/// (1/32, 1, 0) has the sum of squares 2^-10 + 1 exactly; the square of 0.9995116 is rounded to
+/// 1 − 2^-10.
+const UPPER: [f32; 3] = [0.03125, 1.0, 0.0];
+const LOWER: [f32; 3] = [0.0, 0.999_511_6, 0.0];
+
+fn vector([x, y, z]: [f32; 3]) -> Vector {
+    Vector::new(x, y, z)
+}
+
+#[test]
+fn normals_of_the_wrong_length() {
+    let of = |normal: Vector| Hit { normal, ..hit() };
+    let with = |upward: Vector| Hit { upward_normal: Some(upward), ..hit() };
+    for end in [vector(UPPER), vector(LOWER), -vector(UPPER), UP, -UP] {
+        assert_eq!(aimed().drive(&drive(&[of(end)])).answer, ACCEPTED);
+        assert_eq!(aimed().drive(&drive(&[with(end)])).answer, ACCEPTED);
+    }
+    // A step past either end, length two, zero: refused as either normal.
+    let past = [[0.03125, 1.0, 0.0003], [0.25, 0.967_741_37, 0.0]];
+    for past in past.map(vector).into_iter().chain([UP * 2.0, Vector::ZERO]) {
+        assert_eq!(refuse_drive(&drive(&[of(past)])), 12, "{past:?}");
+        assert_eq!(refuse_drive(&drive(&[with(past)])), 12, "{past:?}");
+    }
+    let sum = |parts: [f32; 3]| vector(parts).dot(vector(parts));
+    assert_eq!([sum(LOWER), sum(UPPER)], [1.0 - 1.0 / 1024.0, 1.0 + 1.0 / 1024.0]);
+    assert_eq!(past.map(sum), [above(sum(UPPER)), f32::from_bits(sum(LOWER).to_bits() - 1)]);
+}
+
+#[test]
+fn the_zero_normal_at_time_0() {
+    let zeros = [Vector::ZERO, Vector::new(-0.0, 0.0, -0.0), -Vector::ZERO];
+    for normal in zeros {
+        for upward_normal in [None, Some(UP), Some(-vector(LOWER))] {
+            for time in [0.0, -0.0] {
+                let hit = Hit { time, normal, upward_normal, body: None };
+                assert_eq!(aimed().drive(&drive(&[hit])).answer, ACCEPTED);
+            }
+            let hit = Hit { time: f32::from_bits(1), normal, upward_normal, body: None };
+            assert_eq!(refuse_drive(&drive(&[hit])), 12);
+        }
+        // No upward normal is exempt, whatever the time and the normal.
+        for upward_normal in [Some(normal), Some(UP * 2.0)] {
+            for hit in [Hit { time: 0.0, normal, ..hit() }, Hit { time: 0.0, ..hit() }, hit()] {
+                assert_eq!(refuse_drive(&drive(&[Hit { upward_normal, ..hit }])), 12);
+            }
+        }
+    }
+    // Small is not zero, and another normal than zero is held to the band at time 0 too.
+    for normal in [Vector::new(0.0, f32::from_bits(1), 0.0), UP * 0.5] {
+        assert_eq!(refuse_drive(&drive(&[Hit { time: 0.0, normal, ..hit() }])), 12);
+    }
+}
+
 #[test]
 fn ranges_of_a_drive() {
     for dt in [-f32::from_bits(1), above(1.0), MOST] {
@@ -337,7 +390,7 @@ fn the_order() {
     assert_eq!(table.set_controls(0, &worst), 2);
     assert_eq!(table.set_controls(0, &Controls { engine: 0.0, ..worst }), 10);
     assert_eq!(table.read_wheel(1).answer, 4);
-    // 5 before 6, 6 before 2, 2 before 10.
+    // 5 before 6, 6 before 2, 2 before 12, of a stored number too, and 12 before 10.
     let normal = Vector::new(NAN, 0.0, 0.0);
     let mut worst = Drive { dt: 2.0, ..drive(&[Hit { time: 2.0, normal, ..hit() }]) };
     assert_eq!(table.drive(&worst).answer, 5);
@@ -345,6 +398,14 @@ fn the_order() {
     assert_eq!(table.drive(&worst).answer, 6);
     worst.answers[0] = Some(Hit { normal, ..hit() });
     assert_eq!(table.drive(&worst).answer, 2);
+    worst.answers[0] = Some(Hit { normal: UP * 2.0, ..hit() });
+    let mut rubbish = table.clone();
+    rubbish.numbers[row::CHASSIS + row::ROTATION] = NAN;
+    assert_eq!(rubbish.drive(&worst).answer, 2);
+    rubbish.numbers[row::CHASSIS + row::ROTATION] = 0.0;
+    rubbish.numbers[row::CHASSIS + row::RADIUS] = -1.0;
+    assert_eq!(rubbish.drive(&worst).answer, 12);
+    assert_eq!(table.drive(&worst).answer, 12);
     worst.answers[0] = Some(hit());
     assert_eq!(table.drive(&worst).answer, 10);
 }

@@ -2,10 +2,11 @@
 
 mod bench;
 
-use bench::{body, chassis, controls, drive, hit, row_after, wheel, UP};
+use bench::{aimed, body, chassis, controls, drive, hit, row_after, wheel, UP};
 use vehicle::handed::{Chassis, Controls, Drive, GroundBody, Hit, NewWheel};
 use vehicle::math::{Pose, Rotation, Vector};
 use vehicle::row::{self, Row};
+use vehicle::step::{run_as_sent, Step};
 use vehicle::table::{Table, ACCEPTED, MARK_AIMED};
 
 #[test]
@@ -69,9 +70,20 @@ fn nothing_hit() {
     assert_eq!(row.0[row::SUSPENSION_FORCE], 0.0);
 }
 
+/// The normal that a step takes. The refusals are not asked: refusal 12 lets a drive have few of
+/// these, and rule 3 speaks of them all.
 fn normal_at(time: f32, normal: Vector, upward_normal: Option<Vector>) -> Vector {
-    let hit = Hit { time, normal, upward_normal, body: None };
-    row_after(wheel(), controls(), chassis(), hit).vector(row::CONTACT_NORMAL)
+    let table = aimed();
+    let step = Step {
+        rows: &[table.row(0)],
+        up: 1,
+        forward: 0,
+        chassis: &table.chassis(),
+        dt: 0.5,
+        bodies: &[],
+        answers: &[Some(Hit { time, normal, upward_normal, body: None })],
+    };
+    run_as_sent(&step).map_or(Vector::ZERO, |after| after.rows[0].vector(row::CONTACT_NORMAL))
 }
 
 #[test]

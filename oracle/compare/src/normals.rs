@@ -1,0 +1,150 @@
+//! Which hits refusal 12 was asked about: the ends of the band, and the zero normals.
+
+use std::collections::BTreeMap;
+use std::fmt;
+
+use vehicle::handed::Hit;
+use vehicle::math::Vector;
+use vehicle::program::Line;
+use vehicle::ranges::{is_exempt, BAND};
+use vehicle::table::{ACCEPTED, BAD_DEMAND, BAD_NORMAL, BAD_RESULT, OUT_OF_RANGE};
+
+/// The answers of a drive whose normals were tested.
+const TESTED: [u32; 5] = [ACCEPTED, BAD_NORMAL, OUT_OF_RANGE, BAD_DEMAND, BAD_RESULT];
+
+const OWN: &str = "own normals";
+const UPWARD: &str = "upward normals";
+const EXEMPT: &str = "zero, exempt";
+const ZERO: &str = "zero, refused";
+
+/// Every case, in the order in which they are printed.
+pub const CASES: [(&str, &str); 17] = [
+    (OWN, "a step below the lower end"),
+    (OWN, "lower end"),
+    (OWN, "upper end"),
+    (OWN, "a step above the upper end"),
+    (OWN, "two long"),
+    (UPWARD, "a step below the lower end"),
+    (UPWARD, "lower end"),
+    (UPWARD, "upper end"),
+    (UPWARD, "a step above the upper end"),
+    (UPWARD, "two long"),
+    (EXEMPT, "at time 0"),
+    (EXEMPT, "at time -0"),
+    (EXEMPT, "a part is -0"),
+    (EXEMPT, "beside an upward normal"),
+    (ZERO, "at another time"),
+    (ZERO, "the upward one at time 0"),
+    (ZERO, "the upward one at another time"),
+];
+
+/// How often each case was met.
+#[derive(Clone, Debug, Default)]
+pub struct Normals {
+    hits: u64,
+    cases: BTreeMap<(&'static str, &'static str), u64>,
+}
+
+impl Normals {
+    /// The hits of a drive that got as far as refusal 12.
+    pub fn add(&mut self, line: &Line) {
+        if !TESTED.contains(&line.answer) {
+            return;
+        }
+        for hit in &line.hits {
+            self.hits += 1;
+            for case in cases_of(hit) {
+                *self.cases.entry(case).or_default() += 1;
+            }
+        }
+    }
+
+    /// Both together.
+    pub fn and(mut self, other: Normals) -> Normals {
+        self.hits += other.hits;
+        for (case, count) in other.cases {
+            *self.cases.entry(case).or_default() += count;
+        }
+        self
+    }
+
+    pub fn of(&self, case: (&'static str, &'static str)) -> u64 {
+        self.cases.get(&case).copied().unwrap_or(0)
+    }
+}
+
+fn cases_of(hit: &Hit) -> Vec<(&'static str, &'static str)> {
+    let mut cases: Vec<_> = place_of(hit.normal).map(|place| (OWN, place)).into_iter().collect();
+    cases.extend(hit.upward_normal.and_then(place_of).map(|place| (UPWARD, place)));
+    let at_zero = hit.time == 0.0;
+    if is_exempt(hit) {
+        cases.push((EXEMPT, if hit.time.is_sign_negative() { "at time -0" } else { "at time 0" }));
+        if hit.normal.parts().into_iter().any(f32::is_sign_negative) {
+            cases.push((EXEMPT, "a part is -0"));
+        }
+        if hit.upward_normal.is_some() {
+            cases.push((EXEMPT, "beside an upward normal"));
+        }
+    } else if hit.normal == Vector::ZERO {
+        cases.push((ZERO, "at another time"));
+    }
+    if hit.upward_normal == Some(Vector::ZERO) {
+        let name =
+            if at_zero { "the upward one at time 0" } else { "the upward one at another time" };
+        cases.push((ZERO, name));
+    }
+    cases
+}
+
+/// Where the sum of squares stands, if that is a place at which something changes.
+fn place_of(normal: Vector) -> Option<&'static str> {
+    let (lower, upper) = (1.0 - BAND, 1.0 + BAND);
+    let sum = normal.dot(normal);
+    if sum == lower {
+        Some("lower end")
+    } else if sum == upper {
+        Some("upper end")
+    } else if sum.to_bits() == lower.to_bits() - 1 {
+        Some("a step below the lower end")
+    } else if sum.to_bits() == upper.to_bits() + 1 {
+        Some("a step above the upper end")
+    } else if (sum - 4.0).abs() < 0.001 {
+        Some("two long")
+    } else {
+        None
+    }
+}
+
+impl fmt::Display for Normals {
+    fn fmt(&self, out: &mut fmt::Formatter) -> fmt::Result {
+        writeln!(out, "hits that 12 saw {}", self.hits)?;
+        for group in [OWN, UPWARD, EXEMPT, ZERO] {
+            let counts: Vec<String> = CASES
+                .into_iter()
+                .filter(|case| case.0 == group)
+                .map(|case| format!("{}: {}", case.1, self.of(case)))
+                .collect();
+            writeln!(out, "  {group:<14} {}", counts.join(", "))?;
+        }
+        Ok(())
+    }
+}
+
+#[cfg(test)]
+mod tests {
+    use super::*;
+    use scenarios::{generate, Kind};
+    use vehicle::program;
+
+    /// A few hundred seeds meet every case.
+    #[test]
+    fn every_case_is_met() {
+        let mut normals = Normals::default();
+        for seed in 0..1800 {
+            program::run(&generate(Kind::Edge, seed)).iter().for_each(|line| normals.add(line));
+        }
+        for case in CASES {
+            assert!(normals.of(case) > 0, "{case:?}: {normals}");
+        }
+    }
+}
