@@ -15,27 +15,43 @@ const TESTED: [u32; 5] = [ACCEPTED, BAD_NORMAL, OUT_OF_RANGE, BAD_DEMAND, BAD_RE
 const OWN: &str = "own normals";
 const UPWARD: &str = "upward normals";
 const EXEMPT: &str = "zero, exempt";
-const ZERO: &str = "zero, refused";
+const REFUSED: &str = "zero, refused";
+
+/// Where the sum of squares of a normal that is not zero stands, from small to large.
+const SHORTER: &str = "shorter";
+const BELOW: &str = "a step below the lower end";
+const LOWER: &str = "lower end";
+const INSIDE: &str = "inside";
+const UPPER: &str = "upper end";
+const ABOVE: &str = "a step above the upper end";
+const LONGER: &str = "longer";
+const TWO: &str = "two long";
 
 /// Every case, in the order in which they are printed.
-pub const CASES: [(&str, &str); 17] = [
-    (OWN, "a step below the lower end"),
-    (OWN, "lower end"),
-    (OWN, "upper end"),
-    (OWN, "a step above the upper end"),
-    (OWN, "two long"),
-    (UPWARD, "a step below the lower end"),
-    (UPWARD, "lower end"),
-    (UPWARD, "upper end"),
-    (UPWARD, "a step above the upper end"),
-    (UPWARD, "two long"),
+const CASES: [(&str, &str); 23] = [
+    (OWN, SHORTER),
+    (OWN, BELOW),
+    (OWN, LOWER),
+    (OWN, INSIDE),
+    (OWN, UPPER),
+    (OWN, ABOVE),
+    (OWN, LONGER),
+    (OWN, TWO),
+    (UPWARD, SHORTER),
+    (UPWARD, BELOW),
+    (UPWARD, LOWER),
+    (UPWARD, INSIDE),
+    (UPWARD, UPPER),
+    (UPWARD, ABOVE),
+    (UPWARD, LONGER),
+    (UPWARD, TWO),
     (EXEMPT, "at time 0"),
     (EXEMPT, "at time -0"),
     (EXEMPT, "a part is -0"),
     (EXEMPT, "beside an upward normal"),
-    (ZERO, "at another time"),
-    (ZERO, "the upward one at time 0"),
-    (ZERO, "the upward one at another time"),
+    (REFUSED, "at another time"),
+    (REFUSED, "the upward one at time 0"),
+    (REFUSED, "the upward one at another time"),
 ];
 
 /// How often each case was met.
@@ -68,7 +84,7 @@ impl Normals {
         self
     }
 
-    pub fn of(&self, case: (&'static str, &'static str)) -> u64 {
+    fn of(&self, case: (&'static str, &'static str)) -> u64 {
         self.cases.get(&case).copied().unwrap_or(0)
     }
 }
@@ -76,7 +92,6 @@ impl Normals {
 fn cases_of(hit: &Hit) -> Vec<(&'static str, &'static str)> {
     let mut cases: Vec<_> = place_of(hit.normal).map(|place| (OWN, place)).into_iter().collect();
     cases.extend(hit.upward_normal.and_then(place_of).map(|place| (UPWARD, place)));
-    let at_zero = hit.time == 0.0;
     if is_exempt(hit) {
         cases.push((EXEMPT, if hit.time.is_sign_negative() { "at time -0" } else { "at time 0" }));
         if hit.normal.parts().into_iter().any(f32::is_sign_negative) {
@@ -86,39 +101,38 @@ fn cases_of(hit: &Hit) -> Vec<(&'static str, &'static str)> {
             cases.push((EXEMPT, "beside an upward normal"));
         }
     } else if hit.normal == Vector::ZERO {
-        cases.push((ZERO, "at another time"));
+        cases.push((REFUSED, "at another time"));
     }
     if hit.upward_normal == Some(Vector::ZERO) {
-        let name =
-            if at_zero { "the upward one at time 0" } else { "the upward one at another time" };
-        cases.push((ZERO, name));
+        let at_zero = "the upward one at time 0";
+        let later = "the upward one at another time";
+        cases.push((REFUSED, if hit.time == 0.0 { at_zero } else { later }));
     }
     cases
 }
 
-/// Where the sum of squares stands, if that is a place at which something changes.
+/// Zero normals are counted by themselves.
 fn place_of(normal: Vector) -> Option<&'static str> {
     let (lower, upper) = (1.0 - BAND, 1.0 + BAND);
-    let sum = normal.dot(normal);
-    if sum == lower {
-        Some("lower end")
-    } else if sum == upper {
-        Some("upper end")
-    } else if sum.to_bits() == lower.to_bits() - 1 {
-        Some("a step below the lower end")
-    } else if sum.to_bits() == upper.to_bits() + 1 {
-        Some("a step above the upper end")
-    } else if (sum - 4.0).abs() < 0.001 {
-        Some("two long")
-    } else {
-        None
-    }
+    let below = f32::from_bits(lower.to_bits() - 1);
+    let above = f32::from_bits(upper.to_bits() + 1);
+    let place = match normal.dot(normal) {
+        sum if sum < below => SHORTER,
+        sum if sum == below => BELOW,
+        sum if sum == lower => LOWER,
+        sum if sum < upper => INSIDE,
+        sum if sum == upper => UPPER,
+        sum if sum == above => ABOVE,
+        sum if (sum - 4.0).abs() < 0.001 => TWO,
+        _ => LONGER,
+    };
+    (normal != Vector::ZERO).then_some(place)
 }
 
 impl fmt::Display for Normals {
     fn fmt(&self, out: &mut fmt::Formatter) -> fmt::Result {
         writeln!(out, "hits that 12 saw {}", self.hits)?;
-        for group in [OWN, UPWARD, EXEMPT, ZERO] {
+        for group in [OWN, UPWARD, EXEMPT, REFUSED] {
             let counts: Vec<String> = CASES
                 .into_iter()
                 .filter(|case| case.0 == group)
