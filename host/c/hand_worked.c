@@ -1,4 +1,4 @@
-/* A small car through set-up, aim, drive and read, and each refusal that a call can give: 1, 3, 4, 5, 6, 2, 10, 7 and 8.
+/* A small car through set-up, aim, drive and read, and each refusal that a call can give: 1, 3, 4, 5, 6, 2, 12, 10, 7 and 8.
  *
  * It prints lines: a name, the number that the call answered, and each result as eight hex digits. host/run holds them to hand_worked.lines.
  * Those are worked out by hand from document 01, for which the car's numbers are chosen, and never taken from what a program prints. */
@@ -76,8 +76,8 @@ static uint32_t aim_at(struct car *car, float x, float z, float sights[VEHICLE_A
     return aim(car, chassis, sights);
 }
 
-/* Each answer is of one kind; a hit is flat ground at three quarters of the ray, and names no body. */
-static uint32_t drive(struct car *car, uint32_t kind, size_t answers, size_t bodies, float driven[VEHICLE_DRIVE_LEN])
+/* Each answer is of one kind; a hit is flat ground with this normal, straight up, at this time, and names no body. An upward cast gives zeros. */
+static uint32_t drive_on(struct car *car, uint32_t kind, float time, float normal, size_t answers, size_t bodies, float driven[VEHICLE_DRIVE_LEN])
 {
     static const float body[TOO_MANY_BODIES * VEHICLE_BODY_LEN] = {0};
     static const uint32_t dynamic[TOO_MANY_BODIES] = {0};
@@ -87,10 +87,16 @@ static uint32_t drive(struct car *car, uint32_t kind, size_t answers, size_t bod
     int i;
     for (i = 0; i < VEHICLE_MOST_WHEELS; i++) {
         kinds[i] = kind;
-        rays[i * VEHICLE_RAY_LEN] = 0.75f; /* time */
-        rays[i * VEHICLE_RAY_LEN + 2] = 1; /* normal */
+        rays[i * VEHICLE_RAY_LEN] = time;
+        rays[i * VEHICLE_RAY_LEN + 2] = normal;
     }
     return vehicle_drive(car->table, VEHICLE_TABLE_LEN, car->whole, VEHICLE_WHOLE_LEN, 0.5f, body, bodies * VEHICLE_BODY_LEN, dynamic, bodies, kinds, answers, named, answers, rays, answers * VEHICLE_RAY_LEN, driven, VEHICLE_DRIVE_LEN);
+}
+
+/* A hit is at three quarters of the ray, with a normal of length one. */
+static uint32_t drive(struct car *car, uint32_t kind, size_t answers, size_t bodies, float driven[VEHICLE_DRIVE_LEN])
+{
+    return drive_on(car, kind, 0.75f, 1, answers, bodies, driven);
 }
 
 /* ---- The car. ---- */
@@ -185,6 +191,17 @@ static void refused_lists(struct car *car)
     line("65 bodies", drive(car, VEHICLE_HIT, WHEELS, TOO_MANY_BODIES, driven));
 }
 
+/* Refusal 12: normals of length two, zero normals but for time 0, and zero upward normals at time 0 too. Then the drive whose rays start
+ * inside the ground, which is accepted. */
+static void refused_normals(struct car *car)
+{
+    float driven[VEHICLE_DRIVE_LEN];
+    line("normals two long", drive_on(car, VEHICLE_HIT, 0.75f, 2, WHEELS, 0, driven));
+    line("zero normals", drive_on(car, VEHICLE_HIT, 0.75f, 0, WHEELS, 0, driven));
+    line("zero upward normals", drive_on(car, VEHICLE_HIT_UP, 0, 0, WHEELS, 0, driven));
+    line("zero normals at time 0", drive_on(car, VEHICLE_HIT, 0, 0, WHEELS, 0, driven));
+}
+
 /* Refusal 2, of a stored number: the table is not ours any more. */
 static void refused_stored(struct car *car)
 {
@@ -254,6 +271,7 @@ int main(void)
     refused_controls(&car);
     refused_moments(&car);
     refused_lists(&car);
+    refused_normals(&car);
     refused_stored(&car);
     refused_wheels();
     refused_steps();

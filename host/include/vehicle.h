@@ -64,6 +64,10 @@ extern "C" {
 #define VEHICLE_WILD_STEP 8
 /* (9 is of the scenario program.) A setting is out of its range: see each call. */
 #define VEHICLE_OUT_OF_RANGE 10
+/* (11 is not given.) A normal of a drive is not of length one: its sum of squares is not from 1 - 2^-10 to 1 + 2^-10. Normalise the normals
+ * that the casts give, that of the upward cast too. Only the normal of a hit at time 0 may be zero, all three parts, for a ray that starts
+ * inside a shape. */
+#define VEHICLE_BAD_NORMAL 12
 
 /* ---- The calls. ---- */
 
@@ -99,10 +103,10 @@ uint32_t vehicle_aim(float *table, size_t table_len, uint32_t *whole, size_t who
  * inverse inertia (xx, xy, xz, yy, yz, zz). dynamic, one for each body: 1 if it is dynamic, else 0.
  * kinds, one for each wheel: VEHICLE_NOTHING, VEHICLE_HIT, or VEHICLE_HIT_UP.
  * named, one for each wheel: 0 if the hit names no body, or n for body n - 1 of the list.
- * rays, VEHICLE_RAY_LEN for each wheel: time of the hit, from 0 to 1; its normal (3); the normal of the upward cast (3). What a kind does not
- * have is not looked at.
+ * rays, VEHICLE_RAY_LEN for each wheel: time of the hit, from 0 to 1; its normal (3); the normal of the upward cast (3). A normal has length
+ * one; that of a hit at time 0 may be zero, the upward one never. What a kind does not have is not looked at.
  * results, VEHICLE_DRIVE_LEN: the chassis' new linear velocity (3) and angular velocity (3); 1 if the chassis is to be woken, else 0.
- * Refuses, the first that holds: 1; 5; 6; 2; 10, a dt not from 0 to 1, a body whose inverse mass is below 0, or a stored setting or kept
+ * Refuses, the first that holds: 1; 5; 6; 2; 12; 10, a dt not from 0 to 1, a body whose inverse mass is below 0, or a stored setting or kept
  * chassis out of its range; 7; 8. */
 uint32_t vehicle_drive(float *table, size_t table_len, uint32_t *whole, size_t whole_len, float dt, const float *bodies, size_t bodies_len, const uint32_t *dynamic, size_t dynamic_len, const uint32_t *kinds, size_t kinds_len, const uint32_t *named, size_t named_len, const float *rays, size_t rays_len, float *results, size_t results_len);
 

@@ -183,7 +183,8 @@ pub struct Sight {
     pub ray: Vector,
 }
 
-/// What a wheel's ray met. A body is named by its place in the list of the drive.
+/// What a wheel's ray met. A body is named by its place in the list of the drive. A normal has length one; only that of a hit at time 0 may be
+/// zero, where the ray starts inside a shape.
 #[derive(Clone, Copy, Debug, PartialEq)]
 #[allow(missing_docs)]
 pub enum RayAnswer {
@@ -192,7 +193,7 @@ pub enum RayAnswer {
     /// A hit at a time from 0 to 1.
     Hit { time: f32, normal: Vector, body: Option<u32> },
     /// A hit for which the ray was also cast upward, from its end, against the same shape: `upward` is the normal met there. The library
-    /// looks at it where the time is 0, a ray that starts inside the shape.
+    /// uses it where the time is 0, a ray that starts inside the shape; its length is tested at every time, and it is never zero.
     HitUp { time: f32, normal: Vector, upward: Vector, body: Option<u32> },
 }
 

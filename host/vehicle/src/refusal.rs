@@ -3,7 +3,7 @@
 use std::error::Error;
 use std::fmt;
 
-/// Why a call was refused: document 01's numbers. The vehicle is then as it was before the call.
+/// Why a call was refused: document 01's numbers, and 12 of change request 2026-03. The vehicle is then as it was before the call.
 #[derive(Clone, Copy, Debug, PartialEq, Eq)]
 #[non_exhaustive]
 pub enum Refusal {
@@ -25,6 +25,8 @@ pub enum Refusal {
     WildStep,
     /// 10: a setting is out of its range.
     OutOfRange,
+    /// 12: a ground normal of the wrong length.
+    BadNormal,
     /// A number that this crate does not know.
     Other(u32),
 }
@@ -43,6 +45,7 @@ impl Refusal {
             7 => Refusal::WildGrip,
             8 => Refusal::WildStep,
             10 => Refusal::OutOfRange,
+            12 => Refusal::BadNormal,
             other => Refusal::Other(other),
         })
     }
@@ -59,6 +62,7 @@ impl Refusal {
             Refusal::WildGrip => 7,
             Refusal::WildStep => 8,
             Refusal::OutOfRange => 10,
+            Refusal::BadNormal => 12,
             Refusal::Other(number) => number,
         }
     }
@@ -101,6 +105,11 @@ impl Refusal {
                 "a setting is outside what it may be. A radius must be above 0; lengths, stiffness, dampings, grip, forces and \
                  brake at least 0; a rotation of length one; the time step from 0 to 1 second; \
                  the chassis neither weightless nor without end heavy; a ground body's inverse mass at least 0."
+            }
+            Refusal::BadNormal => {
+                "a normal of the ground is not one unit long: the set was scaled, or its normals were never brought to length one. \
+                 Normalise every normal of this frame's hits, that of the upward cast too. \
+                 Only a ray that starts inside the ground, at time 0, may come with a normal of zeros."
             }
             Refusal::Other(_) => "the library gave a reason that this program does not know: the library is newer than the program.",
         }

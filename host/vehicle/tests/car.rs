@@ -155,6 +155,8 @@ fn refusals_through_the_typed_calls() -> Result<(), Refusal> {
     assert_eq!(over(&[FLOOR; 4], &[GroundBody::default(); 64])?, None);
     assert_eq!(over(&[unlisted(0); 4], &[])?, Some(Refusal::BadLists));
     assert_eq!(over(&[unlisted(u32::MAX); 4], &[GroundBody::default()])?, Some(Refusal::BadLists));
+    let long = RayAnswer::Hit { time: 0.75, normal: Vector::new(0.0, 2.0, 0.0), body: None };
+    assert_eq!(over(&[FLOOR, FLOOR, FLOOR, long], &[])?, Some(Refusal::BadNormal));
     for _ in 4..16 {
         car.add_wheel(&wheel(0.0, 0.0, 1.0))?;
     }
@@ -164,7 +166,7 @@ fn refusals_through_the_typed_calls() -> Result<(), Refusal> {
 
 #[test]
 fn each_refusal_has_its_number_and_words() {
-    for number in [1, 2, 3, 4, 5, 6, 7, 8, 10, 99] {
+    for number in [1, 2, 3, 4, 5, 6, 7, 8, 10, 12, 99] {
         let refusal = Refusal::unless_accepted(number).expect_err("a refusal");
         assert_eq!(refusal.number(), number);
         let words = refusal.to_string();

@@ -294,6 +294,53 @@ fn out_of_range(swept: &mut Swept) {
     );
 }
 
+/// Normals at the ends of their band, a step past them, two long and zero; zero at time 0, which is exempt, and at others.
+fn normals(swept: &mut Swept) {
+    let [_, (_, aimed), _] = moments();
+    // Place 1 begins the first ray's normal, which is all that its kind has; the second ray's upward normal follows its own.
+    let (own, second_time, upward) = (1, len::RAY, len::RAY + 4);
+    let normal_at = |place: usize, normal: [f32; 3]| {
+        driving(|d| d.rays[place..place + 3].copy_from_slice(&normal))
+    };
+    for place in [own, upward] {
+        // The sums of squares are 1 + 2^-10 and, rounded, 1 - 2^-10; then the next beyond either.
+        for normal in [[0.03125, 1.0, 0.0], [0.0, 0.999_511_6, 0.0], [0.0, 0.0, -1.0]] {
+            swept.expect(&format!("normal {normal:?}"), &aimed, &normal_at(place, normal), 0);
+        }
+        let beyond = [[0.03125, 1.0, 0.0003], [0.25, 0.967_741_37, 0.0]];
+        for normal in beyond.into_iter().chain([[0.0, 2.0, 0.0], [0.0, 0.0, -0.5], [0.0; 3]]) {
+            swept.expect(&format!("normal {normal:?}"), &aimed, &normal_at(place, normal), 12);
+        }
+    }
+    let zero_at = |time: f32, upward_to: [f32; 3]| {
+        driving(|d| {
+            (d.rays[0], d.rays[second_time]) = (time, time);
+            for place in [own, second_time + 1] {
+                d.rays[place..place + 3].copy_from_slice(&[0.0, -0.0, 0.0]);
+            }
+            d.rays[upward..upward + 3].copy_from_slice(&upward_to);
+        })
+    };
+    for (time, number) in [(0.0, 0), (-0.0, 0), (f32::from_bits(1), 12), (1.0, 12)] {
+        swept.expect("zero", &aimed, &zero_at(time, [0.0, -1.0, 0.0]), number);
+        swept.expect("zero, the upward one too", &aimed, &zero_at(time, [0.0; 3]), 12);
+    }
+    // In the order 6, 2, 12, 10: the earlier refusal is given.
+    let long = |change: fn(&mut Drive)| {
+        driving(|d| {
+            d.rays[2] = 2.0;
+            change(d);
+        })
+    };
+    swept.expect("length and time", &aimed, &long(|d| d.rays[len::RAY] = 2.0), 6);
+    swept.expect("length and number", &aimed, &long(|d| d.rays[len::RAY + 1] = f32::NAN), 2);
+    let spoilt = with(&aimed, |lent| lent.table[len::CHASSIS] = f32::NAN);
+    swept.expect("length and stored number", &spoilt, &long(|_| ()), 2);
+    swept.expect("length and time step", &aimed, &long(|d| d.dt = 2.0), 12);
+    let spoilt = with(&aimed, |lent| lent.table[6] = 1.01);
+    swept.expect("length and kept rotation", &spoilt, &long(|_| ()), 12);
+}
+
 /// Wild steps, a full vehicle, and axes.
 fn the_rest(swept: &mut Swept) {
     let [(_, new), _, _] = moments();
@@ -337,10 +384,11 @@ fn every_wrong_call_is_answered_by_its_number_and_changes_nothing() {
     bad_lists(&mut swept);
     rubbish(&mut swept);
     out_of_range(&mut swept);
+    normals(&mut swept);
     the_rest(&mut swept);
     let total: usize = swept.0.values().sum();
     println!("swept {total} calls; times that each number was given: {:?}", swept.0);
     let met: Vec<u32> = swept.0.keys().copied().collect();
-    assert_eq!(met, [0, 1, 2, 3, 4, 5, 6, 7, 8, 10]);
+    assert_eq!(met, [0, 1, 2, 3, 4, 5, 6, 7, 8, 10, 12]);
     assert!(total > 25_000, "the sweep has shrunk to {total}");
 }
