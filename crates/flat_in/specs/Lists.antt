@@ -1,5 +1,5 @@
 -- The lists of a drive: a flag for each ground body, and for each wheel the kind of its ray answer, the body that it names and the ray's numbers. Definitions only.
--- Lists that do not fit together are refusal 6, at its place in the order 1, 5, 6, 2, 10, 7, 8: after the drive's own 1 and 5, before the rest.
+-- Lists that do not fit together are refusal 6, at its place in the order 1, 5, 6, 2, 12, 10, 7, 8: after the drive's own 1 and 5, before the rest.
 use Prim.Native.Nat.{ℕ, _+_, _*_}
 use mathlib.Core.Bool.{Bool}
 use mathlib.Core.List.{List, [], _∷_}

@@ -411,7 +411,7 @@ fn normal_lengths(random: &mut Random) -> Vec<Code> {
     if let Code::Drive(drive) = &mut changed {
         let wheel = random.below(drive.answers.len());
         drive.answers[wheel] = Some(hit_at_the_band(random));
-        if random.once_in(4) {
+        if random.once_in(2) {
             another_fault(random, drive);
         }
     }
@@ -436,12 +436,14 @@ fn hit_at_the_band(random: &mut Random) -> Hit {
     }
 }
 
-/// A fault that refusal 12 comes after, or before: then the order shows.
+/// A fault that refusal 12 comes before, of 10, or after, of 2 and 6: then the order shows.
 fn another_fault(random: &mut Random, drive: &mut Drive) {
-    match random.below(4) {
-        0 => drive.dt = random.pick(&[2.0, -1.0, f32::NAN, out(MOST)]),
-        1 => drive.bodies[0].inverse_mass = random.pick(&[-1.0, f32::INFINITY]),
-        2 => drop(drive.answers.pop()),
+    match random.below(10) {
+        0..=2 => drive.dt = random.pick(&[2.0, -1.0]),
+        3..=5 => drive.bodies[0].inverse_mass = -1.0,
+        6 => drive.dt = random.pick(&[f32::NAN, out(MOST)]),
+        7 => drive.bodies[1].inverse_mass = f32::INFINITY,
+        8 => drop(drive.answers.pop()),
         _ => drive.answers[0] = Some(Hit { time: 2.0, ..plain_hit() }),
     }
 }
