@@ -20,6 +20,8 @@ use Rattle.table.specs.Rows.{chassisAt}
 use Rattle.ground.specs.Frame.{Frame}
 use Rattle.refusals.specs.Shape.{countOf, markOf, upOf, forwardOf}
 use Rattle.refusals.specs.After.{After, after, settled, marked}
+use Rattle.refusals.specs.Normals.{normalsOk}
+use Rattle.refusals.proofs.Says.{normals-say}
 use Rattle.refusals.proofs.Settled.{settled-refused, settled-number}
 use Rattle.set_up.specs.SetUp.{setUp, refuseSetUp}
 use Rattle.add_wheel.specs.Add.{addWheel, refuseAdd}
@@ -30,6 +32,7 @@ use Rattle.aim.specs.Aim.{aimOf, refuseAim, notAimed, aimedBy, aimedTable}
 use Rattle.passes.specs.Passes.{stored}
 use Rattle.passes.specs.Step.{wholeStep}
 use Rattle.drive.specs.Drive.{driveUnder, driveOf, refuseDrive, notDriven, drivenBy}
+use Rattle.drive.proofs.Accepted.{drive-says}
 use Rattle.demands.specs.History.{State, Call, SetUp, Drive, ReadWheel, answered, accepted, run, runAll, drivenSince, countAfter, readAfter}
 use Rattle.demands.specs.Answers.{isOneOf, answers}
 use Rattle.demands.specs.Held.{Held, handsHeld, HandsHeld}
@@ -100,9 +103,14 @@ module _ (f : Format) (t : List Float) (m : List ℕ) where
   unfolding readWheel
   read-refused i h = refusal-changes-nothing _ notRead _ h
 
--- each call's number is one of those that document 01 lets it answer: 9 is never a call's, 3 only an add's, 7 only a drive's
+-- each call's number is one of those that document 01 lets it answer: 9 is never a call's, 3 only an add's, 7 and 12 only a drive's
 pub answer-in-list : (f : Format) (c : Call) (s : State) → isOneOf (answered f c s .reply) (answers c) ≡ true
 answer-in-list f c s = number-among f c s
+
+-- ---- Change request 2026-03. "Refuse any hit whose normal's sum of squares lies outside 1 − 2^-10 to 1 + 2^-10, save the zero normal at time 0; the upward normal is held to the same band": the hits of an accepted
+-- drive are those that `normalsOk` accepts, so that every theorem below on accepted drives reads over them.
+pub accepted-normals : (f : Format) (t : List Float) (m : List ℕ) (r : Frame) (n i : ℕ) → refuseDrive f t m r n ≡ 0 → i < n → normalsOk f (r .answer i) ≡ true
+accepted-normals f t m r n i h l = normals-say f (r .answer) n i (drive-says f t m r n h .early .normals) l
 
 -- ---- "In a table our calls wrote, a wheel not yet driven can't be read: that is refusal 5." A history is a list of calls, with any arguments and whatever each answered, from an accepted set-up of
 -- whatever was lent. A read of a used wheel is then refused with 5 exactly where no accepted drive came, or where an accepted set-up, add or aim came after the last.

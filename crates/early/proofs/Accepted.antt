@@ -17,6 +17,7 @@ use Rattle.table.specs.Bounds.{storedWithin}
 use Rattle.ground.specs.Frame.{Frame, Listed}
 use Rattle.refusals.specs.Shape.{countOf, markOf}
 use Rattle.ranges.specs.Ranges.{inUnit, storedInRange}
+use Rattle.refusals.specs.Normals.{allNormalsOk}
 use Rattle.refusals.proofs.Says.{Shape, shape-says, answers-say}
 use Rattle.early.specs.Early.{frameTests, numberTests, rangeTests, earlyTests}
 
@@ -61,16 +62,19 @@ frame-tests-say t m bodies dynamic answer n h =
 pub record EarlyTested (f : Format) (t : List Float) (m : List ℕ) (r : Frame) (n : ℕ) : Type 0 where
   pub frame : FrameTested t m (r .bodies) (r .dynamic) (r .answer) n
   pub stored : storedWithin t n ≡ true
+  pub normals : allNormalsOk f (r .answer) n ≡ true
   pub unit : inUnit (r .dt) ≡ true
   pub ranges : storedInRange f t n ≡ true
 
-stored-of-numbers : (f : Format) (t : List Float) (dt : Float) (bodies : List Float) (answer : ℕ → RayAnswer) (n : ℕ) → firstFailed (numberTests f t dt bodies answer n) ≡ 0 → storedWithin t n ≡ true
+numbers-say : (f : Format) (t : List Float) (dt : Float) (bodies : List Float) (answer : ℕ → RayAnswer) (n : ℕ) → firstFailed (numberTests f t dt bodies answer n) ≡ 0
+    → (storedWithin t n ≡ true) × (allNormalsOk f answer n ≡ true)
 unfolding numberTests firstFailed
-stored-of-numbers f t dt bodies answer n h =
+numbers-say f t dt bodies answer n h =
     let dt = pick-zero _ _ _ h in
     let handed = pick-zero _ _ _ (dt .1) in
     let normals = pick-zero _ _ _ (handed .1) in
-    pick-zero _ _ _ (normals .1) .0
+    let stored = pick-zero _ _ _ (normals .1) in
+    (stored .0, pick-zero _ _ _ (stored .1) .0)
 
 ranges-say : (f : Format) (t : List Float) (dt : Float) (bodies : List Float) (count n : ℕ) → firstFailed (rangeTests f t dt bodies count n) ≡ 0
     → (inUnit dt ≡ true) × (storedInRange f t n ≡ true)
@@ -85,6 +89,6 @@ unfolding earlyTests
 early-tests-say f t m r n h =
     let handed = passed-of-append _ _ h in
     let frame = passed-of-append _ _ handed in
-    let numbers = sym (append-passed _ _ (frame-numbered t m (r .bodies) (r .dynamic) (r .answer) n) frame) ∙ handed in
+    let numbers = numbers-say f t _ _ _ n (sym (append-passed _ _ (frame-numbered t m (r .bodies) (r .dynamic) (r .answer) n) frame) ∙ handed) in
     let ranges = ranges-say f t _ _ _ n (sym (append-passed _ _ (handed-numbered f t m (r .dt) (r .bodies) (r .dynamic) (r .answer) n) handed) ∙ h) in
-    record { frame = frame-tests-say t m _ _ _ n frame; stored = stored-of-numbers f t _ _ _ n numbers; unit = ranges .0; ranges = ranges .1 }
+    record { frame = frame-tests-say t m _ _ _ n frame; stored = numbers .0; normals = numbers .1; unit = ranges .0; ranges = ranges .1 }

@@ -1,4 +1,4 @@
--- What a test that did not refuse tells its caller, a record for each. In order: refusal 1 (sizes, the whole shape); refusal 6 (one answer, the first n). What refusal 10 tells stands in crate `ranges`,
+-- What a test that did not refuse tells its caller, a record for each. In order: refusal 1 (sizes, the whole shape); refusal 6 (one answer, the first n); refusal 12 (the first n). What refusal 10 tells stands in crate `ranges`,
 -- what refusal 2 tells in the table's laws. Assumes nothing.
 use Prim.Native.Nat.{ℕ, _≤_, _<_}
 use mathlib.Core.Bool.{Bool, true, false, not}
@@ -7,7 +7,7 @@ use mathlib.Core.Path.{_≡_}
 use native.Mathlib.Omega.{arith}
 use borrow.Author.Tests.{eqb-true, leb-true}
 use lib.ListN.{length}
-use lib.Ieee.{Float}
+use lib.Ieee.{Float, Format}
 use Rattle.lists.proofs.Picks.{pick-true, told-yes}
 use Rattle.real.specs.Number.{zero, one}
 use Rattle.wheel.specs.declared.RayAnswer.{RayAnswer}
@@ -16,6 +16,7 @@ use Rattle.table.specs.Layout as at
 use Rattle.refusals.specs.Shape.{countOf, markOf, upOf, forwardOf, sizesOk, axesOk, statusOk, shapeOk}
 use Rattle.wheel.specs.Ray.{namedOf}
 use Rattle.refusals.specs.Handed.{hitOk, answerOk, answersOk}
+use Rattle.refusals.specs.Normals.{normalsOk, allNormalsOk}
 use Rattle.ranges.proofs.Says.{Between, unit-says, up-to}
 
 -- ---- refusal 1
@@ -85,3 +86,8 @@ answer-says bodies (HitUp time normal upward named) h = hit-says bodies time nam
 pub answers-say : (bodies : ℕ) (answer : ℕ → RayAnswer) (n i : ℕ) → answersOk bodies answer n ≡ true → i < n → namedOf (answer i) ≤ bodies
 unfolding answersOk
 answers-say bodies answer n i h l = answer-says bodies (answer i) (up-to (λ j. answerOk bodies (answer j)) n i h l)
+
+-- ---- refusal 12
+pub normals-say : (f : Format) (answer : ℕ → RayAnswer) (n i : ℕ) → allNormalsOk f answer n ≡ true → i < n → normalsOk f (answer i) ≡ true
+unfolding allNormalsOk
+normals-say f answer n i h l = up-to (λ j. normalsOk f (answer j)) n i h l

@@ -1,6 +1,6 @@
 -- The theorems of demands/proofs/Demands.antt on histories, accepted calls and wheels, each applied to what the kernel has worked out; those on refusals are applied in Refused.antt. Assumes nothing.
 use Prim.Native.Nat.{_^_}
-use mathlib.Core.Bool.{true}
+use mathlib.Core.Bool.{true, false}
 use mathlib.Core.List.{_∷_}
 use mathlib.Core.Path.{_≡_, refl}
 use lib.Dec.{lit<}
@@ -11,6 +11,7 @@ use Rattle.tyre.specs.Demand3.{Grips, WithinBrake}
 use Rattle.table.specs.Layout as at
 use Rattle.table.specs.Rows.{chassisAt}
 use Rattle.refusals.specs.Shape.{countOf, upOf, forwardOf}
+use Rattle.refusals.specs.Normals.{normalsOk}
 use Rattle.refusals.specs.After.{after, marked}
 use Rattle.passes.specs.Passes.{stored}
 use Rattle.passes.specs.Step.{wholeStep}
@@ -21,7 +22,7 @@ use Rattle.demands.specs.Held.{Held, handsHeld, HandsHeld}
 use Rattle.demands.specs.Update.{Placed, updateOf, updated}
 use Rattle.demands.specs.Impulses.{Accepted, Stepped, stepAfter, forwardDemand, sideDemand, forwardImpulse, sideImpulse, skidAt}
 use Rattle.demands.proofs.Demands as demands
-use Rattle.witnesses.specs.Car.{minus-two, minus-four, five-halves, rolling, road}
+use Rattle.witnesses.specs.Car.{minus-two, minus-four, five-halves, rolling, road, stretched}
 use Rattle.witnesses.specs.Calls.{lent, fitted, aimed, otherDriven, otherCalls, leftBy, theDrive, otherDrive}
 use Rattle.witnesses.specs.Opened.{opened}
 use Rattle.witnesses.proofs.Drives.{drive-accepted, stepped, front-grounded, front-limit, front-slides, rear-grounded, rear-grips, rear-unpowered, lifted-unpowered, other-accepted, alike}
@@ -53,6 +54,14 @@ read-accepted = refl
 
 pub witness-read-only-when-driven : drivenSince binary32 (SetUp 1 0 ∷ otherDriven) lent ≡ true
 witness-read-only-when-driven = demands.read-only-when-driven binary32 lent 1 0 otherDriven set-up-accepted 0 read-accepted
+
+-- ---- the normals of an accepted drive; those of a set that was scaled are none
+pub witness-accepted-normals : normalsOk binary32 (road .answer 0) ≡ true
+witness-accepted-normals = demands.accepted-normals binary32 (theDrive .table) (theDrive .whole) road 3 0 drive-accepted (lit< tt)
+
+pub stretched-are-none : normalsOk binary32 (stretched .answer 0) ≡ false
+unfolding opened
+stretched-are-none = refl
 
 -- ---- demand 2
 abbrev car : State

@@ -15,7 +15,7 @@ use Rattle.table.specs.Rows.{rowOf, chassisList}
 use Rattle.ground.specs.Frame.{Frame}
 use Rattle.demands.specs.History.{State, state, Call, SetUp, AddWheel, SetControls, Aim, Drive, ReadWheel, runAll}
 use Rattle.demands.specs.Impulses.{Step}
-use Rattle.witnesses.specs.Car.{three-halves, vector, nowhere, front, lifted, rear, flattened, otherLifted, otherRear, pressed, moving, rolling, road, bumpy}
+use Rattle.witnesses.specs.Car.{three-halves, vector, nowhere, front, lifted, rear, flattened, otherLifted, otherRear, pressed, moving, rolling, road, bumpy, stretched}
 
 -- ---- what is lent to a set-up: rubbish
 abbrev pub lent : State
@@ -41,6 +41,7 @@ aimed =
     ∷ Aim (rolling twelve)
     ∷ ReadWheel 0  -- 5
     ∷ Drive road 2  -- 6
+    ∷ Drive stretched 3  -- 12
     ∷ [])
 
 abbrev pub reads : List Call

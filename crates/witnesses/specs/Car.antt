@@ -123,3 +123,7 @@ road = over three-quarters
 
 abbrev pub bumpy : Frame
 bumpy = over seven-eighths
+
+-- and on a set that was scaled: under the front wheel the normal is two long
+abbrev pub stretched : Frame
+stretched = frame half [] [] (answerAt (Hit three-quarters (vector zero two zero) 0 ∷ Nothing ∷ met three-quarters ∷ []))
