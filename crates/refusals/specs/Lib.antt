@@ -1,5 +1,5 @@
 pub mod Shape
 pub mod Handed
 pub mod Normals
-pub mod Answers
+pub mod AnswerTests
 pub mod After

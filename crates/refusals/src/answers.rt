@@ -8,7 +8,7 @@ ghost use lib.Ieee.{binary32};
 ghost use Rattle.lists.specs.Counted.{every};
 ghost use Rattle.wheel.specs.Ray.{answerAt};
 ghost use Rattle.table.specs.Layout as at;
-ghost use Rattle.refusals.specs.Answers.{holdsOf};
+ghost use Rattle.refusals.specs.AnswerTests.{holdsOf};
 
 fn holds_of(test: AnswerTest, answer: RayAnswer) -> bool
     ensures { λ r. ⌜ r ≡ holdsOf binary32 test answer ⌝ }

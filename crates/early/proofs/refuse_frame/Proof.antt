@@ -4,7 +4,7 @@ use borrow.Author.Needs.{needs}
 use Rattle.lists.specs.Refusal.{firstFailed}
 use Rattle.lists.proofs.Picks.{picks, told-yes}
 use Rattle.refusals.specs.Handed.{answersOk}
-use Rattle.refusals.specs.Answers.{holdsOf}
+use Rattle.refusals.specs.AnswerTests.{holdsOf}
 use Rattle.refusals.proofs.Says.{shape-says, place-in-shape}
 use Rattle.early.specs.Early.{frameTests}
 use Rattle.early.proofs.refuse_frame.Statement.{statement}

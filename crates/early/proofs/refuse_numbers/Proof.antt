@@ -4,7 +4,7 @@ use Rattle.lists.specs.Refusal.{firstFailed}
 use Rattle.lists.proofs.Picks.{picks}
 use Rattle.refusals.specs.Handed.{allNormalsHanded}
 use Rattle.refusals.specs.Normals.{allNormalsOk}
-use Rattle.refusals.specs.Answers.{holdsOf}
+use Rattle.refusals.specs.AnswerTests.{holdsOf}
 use Rattle.early.specs.Early.{numberTests}
 use Rattle.early.proofs.refuse_numbers.Statement.{statement}
 use Rattle.early.proofs.refuse_numbers.Tie as tie

@@ -1,6 +1,6 @@
 -- `refusals::answers::holds_of` meets its contract: the definition, replayed as the code runs. Assumes nothing.
 use borrow.Author.Needs.{needs}
-use Rattle.refusals.specs.Answers.{holdsOf}
+use Rattle.refusals.specs.AnswerTests.{holdsOf}
 use Rattle.refusals.proofs.answers.holds_of.Statement.{statement}
 use Rattle.refusals.proofs.answers.holds_of.Tie as tie
 

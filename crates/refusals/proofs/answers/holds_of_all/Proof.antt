@@ -11,7 +11,7 @@ use Rattle.lists.proofs.Turns.{every-start, every-yes, every-no, every-end}
 use Rattle.wheel.specs.declared.RayAnswer.{RayAnswer}
 use Rattle.wheel.specs.Ray.{answerAt}
 use Rattle.refusals.specs.declared.AnswerTest.{AnswerTest}
-use Rattle.refusals.specs.Answers.{holdsOf}
+use Rattle.refusals.specs.AnswerTests.{holdsOf}
 use Rattle.refusals.proofs.answers.holds_of_all.Statement.{statement}
 use Rattle.refusals.proofs.answers.holds_of_all.Tie as tie
 
