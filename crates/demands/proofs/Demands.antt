@@ -107,11 +107,6 @@ module _ (f : Format) (t : List Float) (m : List ℕ) where
 pub answer-in-list : (f : Format) (c : Call) (s : State) → isOneOf (answered f c s .reply) (answers c) ≡ true
 answer-in-list f c s = number-among f c s
 
--- ---- Change request 2026-03. "Refuse any hit whose normal's sum of squares lies outside 1 − 2^-10 to 1 + 2^-10, save the zero normal at time 0; the upward normal is held to the same band": the hits of an accepted
--- drive are those that `normalsOk` accepts, so that every theorem below on accepted drives reads over them.
-pub accepted-normals : (f : Format) (t : List Float) (m : List ℕ) (r : Frame) (n i : ℕ) → refuseDrive f t m r n ≡ 0 → i < n → normalsOk f (r .answer i) ≡ true
-accepted-normals f t m r n i h l = normals-say f (r .answer) n i (drive-says f t m r n h .early .normals) l
-
 -- ---- "In a table our calls wrote, a wheel not yet driven can't be read: that is refusal 5." A history is a list of calls, with any arguments and whatever each answered, from an accepted set-up of
 -- whatever was lent. A read of a used wheel is then refused with 5 exactly where no accepted drive came, or where an accepted set-up, add or aim came after the last.
 module _ (f : Format) (lent : State) (up forward : ℕ) (l : List Call) (set-up : accepted f (SetUp up forward) lent ≡ true) where
@@ -206,6 +201,11 @@ module _ (f : Format) (lent : State) (up forward : ℕ) (l : List Call) (set-up 
 
   pub history-is-stepped : (r : Frame) (n i : ℕ) → Accepted f (stepAfter f (SetUp up forward ∷ l) lent r n) → i < n → Stepped f (stepAfter f (SetUp up forward ∷ l) lent r n) i
   history-is-stepped r n i z u = record { accepted = z; held = history-is-held; counted = u }
+
+-- ---- Change request 2026-03. "Refuse any hit whose normal's sum of squares lies outside 1 − 2^-10 to 1 + 2^-10, save the zero normal at time 0; the upward normal is held to the same band": the hits of an accepted
+-- drive are those that `normalsOk` accepts, and every theorem above on accepted drives reads over those.
+pub accepted-normals : (f : Format) (t : List Float) (m : List ℕ) (r : Frame) (n i : ℕ) → refuseDrive f t m r n ≡ 0 → i < n → normalsOk f (r .answer i) ≡ true
+accepted-normals f t m r n i h l = normals-say f (r .answer) n i (drive-says f t m r n h .early .normals) l
 
 -- ---- Change request 2026-13, "More brake, never less braking." "For an unpowered grounded wheel, with chassis after the springs, hit, ground, number of grounded wheels and own row but for the brake held the same, show
 -- that a greater brake never gives a rolling demand of smaller magnitude, nor one of the opposite sign unless a zero is involved. It speaks of the demand before the slide test, for two accepted steps."

@@ -1,4 +1,4 @@
--- Demand 1, "A bad call is answered by a number of document 01": for each call the numbers that it can answer, 0 first, then those of its refusals in document 01's order. Definitions only.
+-- Demand 1, "A bad call is answered by a number of document 01": for each call the numbers that it can answer, 0 first, then those of its refusals in document 01's order, with 12 of change request 2026-03. Definitions only.
 use Prim.Native.Nat.{ℕ}
 use mathlib.Core.Bool.{Bool, false, _||_}
 use mathlib.Core.List.{List, [], _∷_}

@@ -87,9 +87,9 @@ fn try_step(
 // Answers the number 0 with the chassis' new velocities and whether it is to be woken; or refuses with the first that holds, and zeros:
 // 1, no vehicle's table; 5, not aimed; 6, not one answer for each wheel, over 64 bodies or numbers that do not fit them, a time that is NaN
 // or not from 0 to 1, or a body that is not in the list; 2, a number handed in that is not finite or above 2^20 in magnitude, or a stored
-// one that is not finite or above 2^40; 12, a normal whose sum of squares is not from 1 - 2^-10 to 1 + 2^-10, but for the zero normal of a
-// hit at time 0, which no upward one may be; 10, a time step not from 0 to 1, a body whose inverse mass is below 0, or a stored setting or
-// kept chassis out of its range; 7, a demand or grip limit of a grounded wheel that is NaN or above 2^40 in magnitude; 8, a new number that
+// one that is not finite or above 2^40; 12, a hit's normal or upward normal whose sum of squares is not from 1 - 2^-10 to 1 + 2^-10, save
+// the zero normal of a hit at time 0; 10, a time step not from 0 to 1, a body whose inverse mass is below 0, or a stored setting or kept
+// chassis out of its range; 7, a demand or grip limit of a grounded wheel that is NaN or above 2^40 in magnitude; 8, a new number that
 // could not be stored.
 pub fn drive(
     table: &mut [f32],

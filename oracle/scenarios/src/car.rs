@@ -156,9 +156,10 @@ impl Car {
         if random.once_in(4) {
             self.go_to_the_edge_of_grip(random, &controls, &drive);
         }
-        if random.once_in(40) {
-            // A set whose normals are two long: refused, and the frame goes on as if never tried.
-            self.script.drive(with_long_normals(&drive));
+        let long = with_long_normals(&drive);
+        if random.once_in(40) && long != drive {
+            // Refused, and the frame goes on as if it had not been tried.
+            self.script.drive(long);
         }
         let driven = self.script.drive(drive);
         if driven.answer != ACCEPTED {
@@ -291,7 +292,8 @@ impl Car {
     }
 }
 
-/// The same drive with every normal twice as long.
+/// The same drive on a set that was scaled: every normal is twice as long. Where each is zero, or
+/// nothing is hit, it is the very same.
 fn with_long_normals(drive: &Drive) -> Drive {
     let long = |hit: Hit| Hit {
         normal: hit.normal * 2.0,
