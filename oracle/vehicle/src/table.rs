@@ -1,7 +1,8 @@
 //! The calls of document 01 over a lent table, with their refusals, written from 01's text.
 //!
 //! A refusal answers its number, zeros elsewhere, and changes nothing. The tests stand in 01's
-//! order, with that of change request 2026-03: 1, 3, 4, 5, 6, 2, 12, 10, 7, 8. The steps themselves come from running the Rust source.
+//! order, with that of change request 2026-03: 1, 3, 4, 5, 6, 2, 12, 10, 7, 8. The steps themselves
+//! come from running the Rust source.
 
 use crate::geometry::Ray;
 use crate::handed::{Chassis, Controls, Drive, Hit, NewWheel, RayAnswer};
