@@ -5,18 +5,23 @@ use Prim.Native.Nat.{ℕ, _<_}
 use mathlib.Core.Bool.{true, false}
 use mathlib.Core.List.{List, _∷_}
 use mathlib.Core.Path.{_≡_, refl, sym, ap, subst, _∙_}
+use native.Mathlib.Omega.{arith}
 use borrow.Author.Tests.{eqb-true, eq-eqb}
 use lib.Ieee.{Float, Format, lt, le, eq}
+use Rattle.vector.specs.declared.Pose.{Pose}
 use Rattle.body.specs.declared.Chassis.{Chassis}
+use Rattle.wheel.specs.declared.Wheel.{Wheel}
+use Rattle.wheel.specs.declared.Place.{Place}
 use Rattle.wheel.specs.declared.Settings.{Settings}
 use Rattle.wheel.specs.declared.Controls.{Controls}
+use Rattle.wheel.specs.Ray.{centreOf}
 use Rattle.tyre.specs.declared.Friction.{Friction}
 use Rattle.tyre.specs.Grip.{skidOf, rescaledBy}
 use Rattle.tyre.specs.Demand3.{precision, Grips, WithinBrake, leastLimit}
 use Rattle.tyre.specs.MoreBrake.{BrakesNoLess}
 use Rattle.tyre.proofs.Demand3.{not-sliding, sliding}
 use Rattle.table.specs.Layout as at
-use Rattle.table.specs.Rows.{chassisAt}
+use Rattle.table.specs.Rows.{wheelAt, chassisAt}
 use Rattle.ground.specs.Frame.{Frame}
 use Rattle.refusals.specs.Shape.{countOf, markOf, upOf, forwardOf}
 use Rattle.refusals.specs.After.{After, after, settled, marked}
@@ -26,6 +31,7 @@ use Rattle.refusals.proofs.Settled.{settled-refused, settled-number}
 use Rattle.set_up.specs.SetUp.{setUp, refuseSetUp}
 use Rattle.add_wheel.specs.Add.{addWheel, refuseAdd}
 use Rattle.set_controls.specs.Controls.{setControls, refuseControls}
+use Rattle.read_wheel.specs.declared.Reading.{Reading}
 use Rattle.read_wheel.specs.Read.{readWheel, refuseRead, notRead, readingOf}
 use Rattle.read_wheel.proofs.Accepted.{read-says}
 use Rattle.aim.specs.Aim.{aimOf, refuseAim, notAimed, aimedBy, aimedTable}
@@ -37,8 +43,9 @@ use Rattle.demands.specs.History.{State, Call, SetUp, Drive, ReadWheel, 
 use Rattle.demands.specs.Answers.{isOneOf, answers}
 use Rattle.demands.specs.Held.{Held, handsHeld, HandsHeld}
 use Rattle.demands.specs.Update.{Placed, updateOf, updated}
-use Rattle.demands.specs.Impulses.{Step, stepAfter, Accepted, Stepped, Grounded, forwardDemand, sideDemand, gripLimit, forwardImpulse, sideImpulse, skidAt, brakeOf, slidesAt, poweredAt, Alike}
+use Rattle.demands.specs.Impulses.{Step, stepAfter, Accepted, Stepped, Grounded, storedWheel, drivenWheel, forwardDemand, sideDemand, gripLimit, forwardImpulse, sideImpulse, skidAt, brakeOf, slidesAt, poweredAt, Alike}
 use Rattle.demands.specs.MoreBrake.{AlikeButForBrake}
+use Rattle.demands.specs.Settled.{readAfterDrive, driveLength, withLength, centreUnder}
 use Rattle.demands.proofs.Marks.{history-from-set-up}
 use Rattle.demands.proofs.Five.{five-of-not-driven, not-five-of-driven}
 use Rattle.demands.proofs.Numbers.{number-among}
@@ -46,7 +53,8 @@ use Rattle.demands.proofs.Transforms.{placed-from-set-up}
 use Rattle.demands.proofs.Updates.{driven-is, aimed-is, update-speed, update-driven, update-of-placed}
 use Rattle.demands.proofs.Each.{each-of-held, held-of-each}
 use Rattle.demands.proofs.HeldCalls.{call-held, held-from-set-up}
-use Rattle.demands.proofs.Impulses.{forward-rescaled, side-rescaled, forward-admitted, side-admitted, limit-admitted, within-brake, friction-alike}
+use Rattle.demands.proofs.Impulses.{tests, forward-rescaled, side-rescaled, forward-admitted, side-admitted, limit-admitted, within-brake, friction-alike}
+use Rattle.demands.proofs.Settled.{driven-settled, driven-place, read-after-drive, settled-of-placed, next-centre}
 use Rattle.demands.proofs.MoreBrake.{demand-no-less, demand-equal, demand-same}
 
 -- ---- Demand 1. "A bad call is answered by a number of document 01": the number that a call answers is that of its refusal list, 0 where no test of the list fails.
@@ -71,7 +79,7 @@ module _ (f : Format) (t : List Float) (m : List ℕ) where
   unfolding driveOf driveUnder refuseDrive notDriven drivenBy
   drive-number r n = settled-number _ notDriven _ t m (λ x. x .number) refl refl
 
-  pub read-number : (i : ℕ) → readWheel t m i .reply .number ≡ refuseRead t m i
+  pub read-number : (i : ℕ) → readWheel f t m i .reply .number ≡ refuseRead t m i
   unfolding readWheel notRead readingOf
   read-number i = settled-number _ notRead _ t m (λ r. r .number) refl refl
 
@@ -99,7 +107,7 @@ module _ (f : Format) (t : List Float) (m : List ℕ) where
   unfolding driveOf driveUnder refuseDrive
   drive-refused r n h = refusal-changes-nothing _ notDriven _ h
 
-  pub read-refused : (i : ℕ) → (refuseRead t m i ≡ 0 → ⊥) → readWheel t m i ≡ after (notRead (refuseRead t m i)) t m
+  pub read-refused : (i : ℕ) → (refuseRead t m i ≡ 0 → ⊥) → readWheel f t m i ≡ after (notRead (refuseRead t m i)) t m
   unfolding readWheel
   read-refused i h = refusal-changes-nothing _ notRead _ h
 
@@ -201,6 +209,55 @@ module _ (f : Format) (lent : State) (up forward : ℕ) (l : List Call) (set-up 
 
   pub history-is-stepped : (r : Frame) (n i : ℕ) → Accepted f (stepAfter f (SetUp up forward ∷ l) lent r n) → i < n → Stepped f (stepAfter f (SetUp up forward ∷ l) lent r n) i
   history-is-stepped r n i z u = record { accepted = z; held = history-is-held; counted = u }
+
+-- ---- Change request 2026-02, "Tyres are drawn a frame late." "Reading now also gives a settled centre, hard point plus direction times this drive's length, and we draw that. The old centre stays, and demand 2 speaks
+-- of it; the settled one has its own definition." `d` is an accepted drive from any stored state, i the number of one of its wheels.
+module _ (f : Format) (d : Step) (i : ℕ) (accepted : Accepted f d) (counted : i < d .n) where
+  -- each wheel can be read straight after it, and the read is that of the wheel as the drive left it
+  pub driven-is-read : readAfterDrive f d i .reply ≡ readingOf f (drivenWheel f d i)
+  driven-is-read = ap (λ (x : After Reading). x .reply) (read-after-drive f d i accepted counted)
+
+  -- the settled centre has the length that rule 4 or 5 gave in this drive; the old one is as the drive found it
+  pub settled-after-drive : readAfterDrive f d i .reply .settled ≡ centreOf f (storedWheel d i .info .hard) (storedWheel d i .place .direction) (driveLength f d i)
+  unfolding readingOf
+  settled-after-drive = ap (λ (x : Reading). x .settled) driven-is-read ∙ driven-settled f d i accepted counted
+
+  pub centre-after-drive : readAfterDrive f d i .reply .centre ≡ storedWheel d i .place .centre
+  unfolding readingOf
+  centre-after-drive = ap (λ (x : Reading). x .centre) driven-is-read ∙ ap (λ (x : Place). x .centre) (driven-place f d i accepted counted)
+
+-- The same of a drive in a table our calls wrote. Over every history, as above.
+module _ (f : Format) (lent : State) (up forward : ℕ) (l : List Call) (set-up : accepted f (SetUp up forward) lent ≡ true) (r : Frame) (n i : ℕ) where
+  -- the drive, the pose of the chassis that it works on, and wheel i as it finds it
+  abbrev pub drive : Step
+  drive = stepAfter f (SetUp up forward ∷ l) lent r n
+
+  abbrev pub pose : Pose
+  pose = chassisAt (drive .table) .pose
+
+  abbrev pub found : Wheel
+  found = storedWheel drive i
+
+  module _ (passed : Accepted f drive) (counted : i < n) where
+    placed : Placed f (drive .table) i
+    placed =
+        let a = tests f drive passed .early .frame in
+        placed-from-set-up f lent up forward l set-up (a .aimed) i (let e = a .each in omega arith)
+
+    -- rule 1's centre, worked out with the length that rule 4 or 5 just gave
+    pub settled-is-rule-1 : readAfterDrive f drive i .reply .settled ≡ centreUnder f pose (withLength found (driveLength f drive i))
+    unfolding readingOf
+    settled-is-rule-1 = ap (λ (x : Reading). x .settled) (driven-is-read f drive i passed counted) ∙ settled-of-placed f drive i passed counted placed
+
+    -- and the old centre, with the length stored so far
+    pub centre-is-rule-1 : readAfterDrive f drive i .reply .centre ≡ centreUnder f pose found
+    centre-is-rule-1 = centre-after-drive f drive i passed counted ∙ ap (λ (w : Wheel). w .place .centre) placed
+
+    -- "a frame late": where the chassis stands still, the next aim puts the old centre where the settled one is now
+    pub settled-is-next-centre : (c : Chassis) → c .pose ≡ pose → let after-drive = driveOf f (drive .table) (drive .whole) r n in
+        refuseAim f (after-drive .table) (after-drive .whole) c ≡ 0 → wheelAt (aimOf f (after-drive .table) (after-drive .whole) c .table) i .place .centre ≡ readAfterDrive f drive i .reply .settled
+    unfolding readingOf
+    settled-is-next-centre c same p = next-centre f drive i passed counted placed c same p ∙ sym (ap (λ (x : Reading). x .settled) (driven-is-read f drive i passed counted))
 
 -- ---- Change request 2026-03. "Refuse any hit whose normal's sum of squares lies outside 1 − 2^-10 to 1 + 2^-10, save the zero normal at time 0; the upward normal is held to the same band": the hits of an accepted
 -- drive are those that `normalsOk` accepts, and every theorem above on accepted drives reads over those.

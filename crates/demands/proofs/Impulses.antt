@@ -91,13 +91,13 @@ abbrev pub uncutAt : Format → Step → ℕ → Float
 uncutAt f d i = uncutOf f (bodyIn f d) (groundIn d i) (groundedIn d) (sprungAt f d i)
 
 module _ (f : Format) (d : Step) (accepted : Accepted f d) where
-  tests : DriveTested f (d .table) (d .whole) (d .frame) (d .n)
+  pub tests : DriveTested f (d .table) (d .whole) (d .frame) (d .n)
   tests = drive-says f (d .table) (d .whole) (d .frame) (d .n) accepted
 
-  room : d .n ≤ at.WHEELS
+  pub room : d .n ≤ at.WHEELS
   room = let e = tests .early .frame .each in let l = tests .early .frame .shape .room in omega arith
 
-  driven-table : driveOf f (d .table) (d .whole) (d .frame) (d .n) .table ≡ wholeStep f stored (upOf (d .whole)) (d .frame) (d .n) (d .table) .table
+  pub driven-table : driveOf f (d .table) (d .whole) (d .frame) (d .n) .table ≡ wholeStep f stored (upOf (d .whole)) (d .frame) (d .n) (d .table) .table
   unfolding driveOf driveUnder refuseDrive
   driven-table = ap (λ (x : After Driven). x .table) (sym (settled-done _ _ notDriven _ _ (d .table) (d .whole) refl accepted refl))
 
@@ -189,7 +189,7 @@ module _ (f : Format) (d : Step) (i : ℕ) (g : Grounded f d i) where
   unfolding demandsAdmitted admittedAt pick
   admitted-seven =
       let u = g .stepped .counted in
-      rw (g .contact) at (every-at (admittedAt f stored (d .frame .dt) (d .frame .answer) _) (d .n) 0 i (tests f d (g .stepped .accepted) .demands) (omega arith) (omega arith))
+      rw (g .contact) at (every-at (admittedAt f stored (d .frame .dt) (d .frame .answer) _) (d .n) 0 i (tests f d (g .stepped .accepted) .step .demands) (omega arith) (omega arith))
 
   pub forward-admitted : Admitted f (forwardDemand f d i)
   unfolding admits

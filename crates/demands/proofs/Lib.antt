@@ -8,6 +8,7 @@ pub mod Five
 pub mod Passed
 pub mod Impulses
 pub mod MoreBrake
+pub mod Settled
 pub mod Numbers
 pub mod Each
 pub mod HeldWheel

@@ -1,5 +1,5 @@
 -- Wheel i through the passes of a step under the tuning that counts, over a table of the right size. In order: what a cast, a suspension and a spin keep of one wheel; after the springs, its directions, after the demands, at the end;
--- what its two impulses come to. Assumes nothing.
+-- what its two impulses come to; what the step leaves of it but for its motion. Assumes nothing.
 use Prim.Native.Nat.{ℕ, _≤_, _<_}
 use mathlib.Core.Bool.{Bool}
 use mathlib.Core.List.{List}
@@ -15,7 +15,7 @@ use Rattle.wheel.specs.declared.Wheel.{Wheel}
 use Rattle.wheel.specs.declared.Directions.{Directions}
 use Rattle.wheel.specs.declared.RayAnswer.{RayAnswer}
 use Rattle.wheel.specs.declared.RayAnswer.the-variants.{Nothing, Hit, HitUp}
-use Rattle.wheel.specs.Parts.{withFriction, frictionIn}
+use Rattle.wheel.specs.Parts.{withMotion, withFriction, frictionIn}
 use Rattle.wheel.specs.Ray.{rayCast, hitOf, missOf, isGrounded}
 use Rattle.road.specs.Contact.{directionsOf}
 use Rattle.road.specs.Step.{suspendedOf, frictionOf, impulsesOf, spunBy, updateRotation}
@@ -23,7 +23,7 @@ use Rattle.table.specs.Layout as at
 use Rattle.table.specs.Rows.{wheelAt, chassisAt}
 use Rattle.table.proofs.Laws.{wheel-stays}
 use Rattle.ground.specs.Frame.{Frame, groundedAt, groundedWheels, groundUnder}
-use Rattle.passes.specs.Passes.{noDirections, directionsIn, directionsAt, demandOf, demandAt, casts, rescales}
+use Rattle.passes.specs.Passes.{noDirections, directionsIn, directionsAt, demandOf, demandAt, casts, rescales, spins}
 use Rattle.passes.specs.Step.{sprung, demanded, pushed, spun, demandStep, wholeStep}
 use Rattle.passes.proofs.Laws.{wheel-casts, wheel-suspensions, wheel-demands, wheel-rescales, wheel-spins}
 use Rattle.passes.proofs.Gives.{gives-at}
@@ -118,3 +118,16 @@ module _ (f : Format) (tune : WheelTuning → WheelTuning) (r : Frame) (n : ℕ)
       ≡ impulsesOf f own kept (sprung f tune r n t .chassis .body) (r .dt) (groundUnder (r .bodies) (r .dynamic) (r .answer i)) (groundedWheels (r .answer) n) (r .answer i) (wheelAt t i)
   unfolding impulsesOf
   friction-alone up = friction-stepped up ∙ ap (λ (w : Wheel). rescaledOf f (frictionIn w)) wheel-demanded
+
+  -- but for its motion, the wheel that the step leaves is as its cast left it
+  pub wheel-stepped : (up : ℕ) → let w = wheelAt (wholeStep f tune up r n t .table) i in w ≡ withMotion (rayCast f own kept (r .answer i) (wheelAt t i)) (w .motion)
+  unfolding wholeStep spun pushed updateRotation spunBy suspendedOf
+  wheel-stepped up =
+      let demanded = demandStep f tune r n t .table in
+      let end = pushed f up n (demandStep f tune r n t) .chassis in
+      let last : wheelAt (wholeStep f tune up r n t .table) i ≡ updateRotation f (r .dt) (groundedAt (r .answer) i) (end .body) (withFriction (withFriction hung friction) (rescaledOf f friction)) =
+      wheel-stays (spins f (r .dt) (end .body) (r .answer) n (rescales f n demanded)) end i
+      ∙ wheel-spins f n (rescales f n demanded) (length-rescaled f tune r n l t s) l i h (r .dt) (end .body) (r .answer)
+      ∙ ap (updateRotation f (r .dt) (groundedAt (r .answer) i) (end .body))
+      (wheel-rescales f n demanded (length-demanded f tune r n l t s) l i h ∙ ap (λ (w : Wheel). withFriction w (rescaledOf f (frictionIn w))) wheel-demanded) in
+      last ∙ ap (λ (w : Wheel). withMotion (rayCast f own kept (r .answer i) (wheelAt t i)) (w .motion)) (sym last)

@@ -44,7 +44,7 @@ answered f (AddWheel settings) s = addWheel (s .table) (s .whole) settings
 answered f (SetControls i controls) s = setControls f (s .table) (s .whole) i controls
 answered f (Aim chassis) s = numbered (λ r. r .number) (aimOf f (s .table) (s .whole) chassis)
 answered f (Drive frame n) s = numbered (λ r. r .number) (driveOf f (s .table) (s .whole) frame n)
-answered f (ReadWheel i) s = numbered (λ r. r .number) (readWheel (s .table) (s .whole) i)
+answered f (ReadWheel i) s = numbered (λ r. r .number) (readWheel f (s .table) (s .whole) i)
 
 unfoldable pub accepted : Format → Call → State → Bool
 accepted f c s = eqb (answered f c s .reply) 0
@@ -89,4 +89,4 @@ abbrev pub countAfter : Format → List Call → State → ℕ
 countAfter f l s = countOf (runAll f l s .whole)
 
 abbrev pub readAfter : Format → List Call → State → ℕ → ℕ
-readAfter f l s i = readWheel (runAll f l s .table) (runAll f l s .whole) i .reply .number
+readAfter f l s i = readWheel f (runAll f l s .table) (runAll f l s .whole) i .reply .number

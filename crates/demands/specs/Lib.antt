@@ -4,4 +4,5 @@ pub mod Held
 pub mod Update
 pub mod Impulses
 pub mod MoreBrake
+pub mod Settled
 pub mod Same

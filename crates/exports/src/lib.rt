@@ -3,7 +3,7 @@
 // call, and refuses with 1, before all else, a list of settings, controls, chassis or results of the wrong length. Results are written only
 // where the answer is 0.
 use drive::Driven;
-use read_wheel::READING;
+use read_wheel::SETTLED;
 use table::layout as lent;
 ghost use mathlib.Core.Path.{_≡_};
 ghost use mathlib.Core.Bool.{true};
@@ -155,7 +155,8 @@ pub extern "C" fn vehicle_drive(
 
 // Reads one wheel after a drive: `read_wheel::read_wheel`.
 // Takes: a vehicle; the wheel's number.
-// Results, vehicle_read_len numbers: centre, world direction, world axle, suspension length, force, forward and side impulse, skid, rotation.
+// Results, vehicle_read_len numbers: centre, world direction, world axle, suspension length, force, forward and side impulse, skid, rotation,
+// and the settled centre, where the tyre is drawn.
 #[no_mangle]
 pub extern "C" fn vehicle_read_wheel(
     table: &[f32],
@@ -163,9 +164,9 @@ pub extern "C" fn vehicle_read_wheel(
     wheel: u32,
     results: &mut [f32],
 ) -> u32
-    ensures { λ r. ⌜ after (flat r (now (results .exit))) (now (table .entry)) (now (whole .entry)) ≡ flatRead (now (table .entry)) (now (whole .entry)) wheel (now (results .entry)) ⌝ }
+    ensures { λ r. ⌜ after (flat r (now (results .exit))) (now (table .entry)) (now (whole .entry)) ≡ flatRead binary32 (now (table .entry)) (now (whole .entry)) wheel (now (results .entry)) ⌝ }
 {
-    if results.len() != READING {
+    if results.len() != SETTLED {
         return 1;
     }
     let r = read_wheel::read_wheel(table, whole, wheel);
@@ -248,7 +249,7 @@ pub extern "C" fn vehicle_drive_len() -> u32
 // How many numbers a read writes.
 #[no_mangle]
 pub extern "C" fn vehicle_read_len() -> u32
-    ensures { λ r. ⌜ r ≡ read.READING ⌝ }
+    ensures { λ r. ⌜ r ≡ read.SETTLED ⌝ }
 {
-    READING as u32
+    SETTLED as u32
 }

@@ -12,7 +12,7 @@ ghost use Prim.Native.Nat.{_+_, _*_, _<_};
 ghost use lib.ListN.{length};
 ghost use Rattle.lists.specs.Part.{paste};
 ghost use Rattle.table.specs.Layout as lent;
-ghost use Rattle.read_wheel.specs.Read.{READING, readingList};
+ghost use Rattle.read_wheel.specs.Read.{SETTLED, settledList};
 ghost use Rattle.flat_out.specs.Layout as at;
 ghost use Rattle.flat_out.specs.Ends.{writtenOver};
 ghost use Rattle.aim.specs.Sights.{SIGHT, sightList, sightsList, aimedList};
@@ -20,15 +20,15 @@ ghost use Rattle.flat_out.specs.Results.{flagNumber, drivenList};
 
 pub mod layout; // where each number stands
 
-// The results of a read.
+// The results of a read, the settled centre last.
 pub fn put_reading(results: &mut [f32], r: Reading)
-    requires { ⌜ length (now results) ≡ READING ⌝ }
-    ensures { λ _. ⌜ now (results .exit) ≡ writtenOver (now (results .entry)) (r .number) (readingList r) ⌝ }
+    requires { ⌜ length (now results) ≡ SETTLED ⌝ }
+    ensures { λ _. ⌜ now (results .exit) ≡ writtenOver (now (results .entry)) (r .number) (settledList r) ⌝ }
 {
     if r.number != 0 {
         return;
     }
-    let numbers = read_wheel::reading_numbers(r);
+    let numbers = read_wheel::settled_numbers(r);
     table::rows::copy(results, &numbers);
 }
 

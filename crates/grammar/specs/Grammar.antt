@@ -34,7 +34,8 @@ asked c =
     pick (eqb c at.AIM) Asked.Aim (
     pick (eqb c at.DRIVE) Asked.Drive (
     pick (eqb c at.READ) Asked.Read (
-    Asked.Unknown))))))
+    pick (eqb c at.READ-SETTLED) Asked.ReadSettled (
+    Asked.Unknown)))))))
 
 -- after a code
 unfoldable pub afterAsked : Asked → Place
@@ -44,6 +45,7 @@ afterAsked Asked.Controls = 0 then Wheel at.CONTROLS-FLOATS
 afterAsked Asked.Aim = at.AIM-FLOATS then End
 afterAsked Asked.Drive = at.STEP-FLOATS then Bodies
 afterAsked Asked.Read = 0 then Wheel at.READ-FLOATS
+afterAsked Asked.ReadSettled = 0 then Wheel at.READ-FLOATS
 afterAsked Asked.Unknown = 0 then Bad
 
 -- n more bodies, then the answers

@@ -14,6 +14,7 @@ use Rattle.refusals.specs.Shape.{countOf}
 use Rattle.refusals.specs.After.{After, after}
 use Rattle.add_wheel.specs.Add.{addWheel}
 use Rattle.set_controls.specs.Controls.{setControls}
+use Rattle.read_wheel.specs.declared.Reading.{Reading}
 use Rattle.read_wheel.specs.Read.{readWheel}
 use Rattle.aim.specs.Aim.{aimOf}
 use Rattle.drive.specs.Drive.{driveOf}
@@ -23,7 +24,7 @@ use Rattle.grammar.specs.Grammar.{asked}
 use Rattle.scenario.specs.Decode.{numberFrom, settingsFrom, wheelFrom, controlsFrom, chassisFrom}
 use Rattle.frame_words.specs.Frame.{stepFrom, bodyCountFrom, bodiesFrom, flagsFrom, answerCountFrom, answersStart, answersFrom}
 use Rattle.perform.specs.declared.Answer.{Answer}
-use Rattle.replies.specs.Replies.{aimResults, driveResults, readResults}
+use Rattle.replies.specs.Replies.{aimResults, driveResults, readResults, settledResults}
 
 -- ---- what a code is answered: a number and the results
 pub record Answered : Type 0 where
@@ -65,8 +66,9 @@ frameFrom f l =
 abbrev pub driveCall : Format → List ℕ → List Float → List ℕ → After Answered
 driveCall f l t m = told (λ r. r .number) (driveResults f) (driveOf f t m (frameFrom f l) (answersOf l))
 
-abbrev pub readCall : Format → List ℕ → List Float → List ℕ → After Answered
-readCall f l t m = told (λ r. r .number) (readResults f) (readWheel t m (wheelFrom l))
+-- a read, by the results that its code has
+abbrev pub readCall : Format → (Reading → List ℕ) → List ℕ → List Float → List ℕ → After Answered
+readCall f results l t m = told (λ r. r .number) results (readWheel f t m (wheelFrom l))
 
 -- an answer 0 that changes nothing
 abbrev pub noCall : List Float → List ℕ → After Answered
@@ -79,7 +81,8 @@ callFor f Asked.Add l t m = addCall f l t m
 callFor f Asked.Controls l t m = controlsCall f l t m
 callFor f Asked.Aim l t m = aimCall f l t m
 callFor f Asked.Drive l t m = driveCall f l t m
-callFor f Asked.Read l t m = readCall f l t m
+callFor f Asked.Read l t m = readCall f (readResults f) l t m
+callFor f Asked.ReadSettled l t m = readCall f (settledResults f) l t m
 callFor f Asked.Unknown l t m = noCall t m
 
 unfoldable pub callOf : Format → List ℕ → List Float → List ℕ → After Answered

@@ -3,6 +3,7 @@ use super::Answer;
 use scenario::decode;
 ghost use mathlib.Core.Path.{_≡_};
 ghost use lib.ListN.{length};
+ghost use Rattle.lists.specs.Pick.{pick};
 ghost use Rattle.refusals.specs.After.{after};
 ghost use Rattle.add_wheel.specs.Add.{addWheel};
 ghost use Rattle.set_controls.specs.Controls.{setControls};
@@ -10,6 +11,7 @@ ghost use Rattle.grammar.specs.Layout as code;
 ghost use Rattle.lines.specs.Layout as line;
 ghost use Rattle.scenario.specs.Format.{format};
 ghost use Rattle.scenario.specs.Decode.{settingsFrom, wheelFrom, controlsFrom};
+ghost use Rattle.replies.specs.Replies.{readResults, settledResults};
 ghost use Rattle.perform.specs.Call.{readCall, Performs};
 
 // Adds the wheel of the words. Answers the number of the call.
@@ -29,10 +31,16 @@ pub fn call_controls(words: &[u32], table: &mut [f32], whole: &mut [u32]) -> u32
     set_controls::set_controls(table, whole, wheel, decode::controls_from(words))
 }
 
-// Reads the wheel that the words name; if accepted, its numbers go into the results.
-pub fn call_read(words: &[u32], table: &[f32], whole: &[u32], results: &mut [u32]) -> Answer
+// Reads the wheel that the words name; if accepted, its numbers go into the results, with its settled centre or without.
+pub fn call_read(
+    words: &[u32],
+    table: &[f32],
+    whole: &[u32],
+    settled: bool,
+    results: &mut [u32],
+) -> Answer
     requires { ⌜ (length (now words) ≡ code.CODE-WORDS) × (length (now results) ≡ line.RESULTS) ⌝ }
-    ensures { λ r. ⌜ Performs (readCall format (now (words .entry)) (now (table .entry)) (now (whole .entry))) r (now (results .entry)) (now (results .exit)) (now (table .entry)) (now (whole .entry)) ⌝ }
+    ensures { λ r. ⌜ Performs (readCall format (λ x. pick settled (settledResults format x) (readResults format x)) (now (words .entry)) (now (table .entry)) (now (whole .entry))) r (now (results .entry)) (now (results .exit)) (now (table .entry)) (now (whole .entry)) ⌝ }
 {
     let wheel = decode::wheel_from(words);
     let r = read_wheel::read_wheel(table, whole, wheel);
@@ -40,6 +48,6 @@ pub fn call_read(words: &[u32], table: &[f32], whole: &[u32], results: &mut [u32
     if number != 0 {
         return Answer { number, count: 0 };
     }
-    let count = replies::put_reading(results, r);
+    let count = replies::put_reading(results, settled, r);
     Answer { number, count }
 }

@@ -48,7 +48,8 @@ pub fn perform(words: &[u32], table: &mut [f32], whole: &mut [u32], results: &mu
         }
         Asked::Aim => frames::call_aim(words, table, whole, results),
         Asked::Drive => frames::call_drive(words, table, whole, results),
-        Asked::Read => calls::call_read(words, &table[..], &whole[..], results),
+        Asked::Read => calls::call_read(words, &table[..], &whole[..], false, results),
+        Asked::ReadSettled => calls::call_read(words, &table[..], &whole[..], true, results),
         Asked::Unknown => no_call(),
     }
 }

@@ -1,13 +1,14 @@
 -- Document 01, "What a vehicle keeps". Read a wheel: only when driven. It gives centre, world direction, world axle, suspension length, force,
--- forward and side impulse, skid and rotation. Definitions only.
-use Prim.Native.Nat.{ℕ}
+-- forward and side impulse, skid and rotation. Change request 2026-02: "Reading now also gives a settled centre, .. and we draw that. The old centre stays". Definitions only.
+use Prim.Native.Nat.{ℕ, _+_}
 use mathlib.Core.List.{List, [], _∷_, _++_}
 use lib.Dec.{eqb, ltb}
-use lib.Ieee.{Float}
+use lib.Ieee.{Float, Format}
 use Rattle.lists.specs.Refusal.{_or_, firstFailed}
 use Rattle.real.specs.Number.{zero}
 use Rattle.vector.specs.Arithmetic.{zeroV}
 use Rattle.wheel.specs.declared.Wheel.{Wheel}
+use Rattle.wheel.specs.Ray.{settledCentre}
 use Rattle.table.specs.Layout as at
 use Rattle.table.specs.Rows.{vectorList, wheelAt}
 use Rattle.table.specs.Bounds.{storedWithin}
@@ -36,10 +37,11 @@ notRead number = record {
   side = zero;
   skid = zero;
   rotation = zero;
+  settled = zeroV;
 }
 
-unfoldable pub readingOf : Wheel → Reading
-readingOf w = record {
+unfoldable pub readingOf : Format → Wheel → Reading
+readingOf f w = record {
   number = 0;
   centre = w .place .centre;
   direction = w .place .direction;
@@ -50,9 +52,10 @@ readingOf w = record {
   side = w .motion .side;
   skid = w .motion .skid;
   rotation = w .motion .rotation;
+  settled = settledCentre f w;
 }
 
--- the results of a read, in the order of docs/STREAM.md, and how many they are
+-- the results of a read, in the order of docs/STREAM.md, and how many they are: document 01's, and those with the settled centre last
 unfoldable pub readingList : Reading → List Float
 readingList r =
     vectorList (r .centre)
@@ -63,5 +66,11 @@ readingList r =
 abbrev pub READING : ℕ
 READING = 15
 
-unfoldable pub readWheel : List Float → List ℕ → ℕ → After Reading
-readWheel t m i = settled (refuseRead t m i) notRead (after (readingOf (wheelAt t i)) t m) t m
+unfoldable pub settledList : Reading → List Float
+settledList r = readingList r ++ vectorList (r .settled)
+
+abbrev pub SETTLED : ℕ
+SETTLED = READING + 3
+
+unfoldable pub readWheel : Format → List Float → List ℕ → ℕ → After Reading
+readWheel f t m i = settled (refuseRead t m i) notRead (after (readingOf f (wheelAt t i)) t m) t m

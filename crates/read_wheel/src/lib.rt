@@ -4,10 +4,12 @@ use table::layout::*;
 use vector::Vector;
 use wheel::Wheel;
 ghost use mathlib.Core.Path.{_≡_};
+ghost use lib.Ieee.{binary32};
 ghost use Rattle.refusals.specs.After.{after};
-ghost use Rattle.read_wheel.specs.Read.{refuseRead, notRead, readingOf, readingList, readWheel};
+ghost use Rattle.read_wheel.specs.Read.{refuseRead, notRead, readingOf, settledList, readWheel};
 
-// What a read answers: its number and the fifteen numbers of a wheel.
+// What a read answers: its number, the fifteen numbers of a wheel, and its settled centre, where the tyre is drawn. `centre` is rule 1's, with
+// the length from before the cast.
 pub struct Reading {
     pub number: u32,
     pub centre: Vector,
@@ -19,10 +21,13 @@ pub struct Reading {
     pub side: f32,
     pub skid: f32,
     pub rotation: f32,
+    pub settled: Vector,
 }
 
-// How many numbers a read gives.
+// How many numbers a read gives: document 01's, and those with the settled centre.
 pub const READING: usize = 15;
+
+pub const SETTLED: usize = READING + 3;
 
 fn refuse_read(table: &[f32], whole: &[u32], wheel: u32) -> u32
     ensures { λ r. ⌜ r ≡ refuseRead (now (table .entry)) (now (whole .entry)) wheel ⌝ }
@@ -58,17 +63,19 @@ fn not_read(number: u32) -> Reading
         side: 0.0,
         skid: 0.0,
         rotation: 0.0,
+        settled: zero,
     }
 }
 
 fn reading_of(w: Wheel) -> Reading
-    ensures { λ r. ⌜ r ≡ readingOf w ⌝ }
+    ensures { λ r. ⌜ r ≡ readingOf binary32 w ⌝ }
 {
     let p = w.place;
     let m = w.motion;
     let centre = p.centre;
     let direction = p.direction;
     let axle = p.axle;
+    let settled = wheel::ray::settled_centre(w);
     Reading {
         number: 0,
         centre,
@@ -80,16 +87,17 @@ fn reading_of(w: Wheel) -> Reading
         side: m.side,
         skid: m.skid,
         rotation: m.rotation,
+        settled,
     }
 }
 
-// Reads one wheel after a drive. The centre is where the tyre is drawn.
+// Reads one wheel after a drive. The settled centre is where the tyre is drawn.
 // Takes: the table and the whole numbers of a vehicle; the wheel's number. It changes nothing.
-// Answers the number 0 with the wheel's centre, world direction, world axle, suspension length, force, forward and side impulse, skid and
-// rotation; or refuses with the first that holds, and zeros: 1, no vehicle's table; 4, no such wheel; 5, not driven since the last set-up,
-// add or aim; 2, a stored number that is not finite or above 2^40 in magnitude.
+// Answers the number 0 with the wheel's centre, world direction, world axle, suspension length, force, forward and side impulse, skid,
+// rotation and settled centre; or refuses with the first that holds, and zeros: 1, no vehicle's table; 4, no such wheel; 5, not driven since
+// the last set-up, add or aim; 2, a stored number that is not finite or above 2^40 in magnitude.
 pub fn read_wheel(table: &[f32], whole: &[u32], wheel: u32) -> Reading
-    ensures { λ r. ⌜ after r (now (table .entry)) (now (whole .entry)) ≡ readWheel (now (table .entry)) (now (whole .entry)) wheel ⌝ }
+    ensures { λ r. ⌜ after r (now (table .entry)) (now (whole .entry)) ≡ readWheel binary32 (now (table .entry)) (now (whole .entry)) wheel ⌝ }
 {
     let number = refuse_read(table, whole, wheel);
     if number != 0 {
@@ -98,9 +106,9 @@ pub fn read_wheel(table: &[f32], whole: &[u32], wheel: u32) -> Reading
     reading_of(table::rows::get_wheel(table, wheel as usize))
 }
 
-// The results of a read, in the order of docs/STREAM.md.
-pub fn reading_numbers(r: Reading) -> [f32; READING]
-    ensures { λ x. ⌜ x ≡ readingList r ⌝ }
+// The results of a read, in the order of docs/STREAM.md, the settled centre last.
+pub fn settled_numbers(r: Reading) -> [f32; SETTLED]
+    ensures { λ x. ⌜ x ≡ settledList r ⌝ }
 {
     [
         r.centre.x,
@@ -118,5 +126,8 @@ pub fn reading_numbers(r: Reading) -> [f32; READING]
         r.side,
         r.skid,
         r.rotation,
+        r.settled.x,
+        r.settled.y,
+        r.settled.z,
     ]
 }

@@ -1,3 +1,4 @@
 -- The laws that the functions' proofs cite.
 pub mod Putting
+pub mod Settled
 pub mod Tied

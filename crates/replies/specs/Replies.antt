@@ -4,7 +4,7 @@ use mathlib.Core.List.{List, [], _∷_, _++_}
 use lib.Ieee.{Format}
 use lib.ListN.{take}
 use Rattle.read_wheel.specs.declared.Reading.{Reading}
-use Rattle.read_wheel.specs.Read.{readingList}
+use Rattle.read_wheel.specs.Read.{readingList, settledList}
 use Rattle.aim.specs.declared.Aimed.{Aimed}
 use Rattle.drive.specs.declared.Driven.{Driven}
 use Rattle.aim.specs.Sights.{aimedList}
@@ -18,5 +18,10 @@ aimResults f wheels r = wordsOf f (aimedList (r .speed) (take wheels (r .sights)
 unfoldable pub driveResults : Format → Driven → List ℕ
 driveResults f r = wordsOf f (velocityList r) ++ (flagWord (r .wake) ∷ [])
 
+-- code 5
 unfoldable pub readResults : Format → Reading → List ℕ
 readResults f r = wordsOf f (readingList r)
+
+-- change request 2026-02: "code 8 is a read with the settled centre last"
+unfoldable pub settledResults : Format → Reading → List ℕ
+settledResults f r = wordsOf f (settledList r)

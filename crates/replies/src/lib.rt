@@ -8,20 +8,23 @@ use drive::results::velocity_numbers;
 use lines::layout::WHEEL_RESULTS;
 use read_wheel::READING;
 use read_wheel::Reading;
-use read_wheel::reading_numbers;
+use read_wheel::SETTLED;
+use read_wheel::settled_numbers;
 use scenario::results;
 use table::layout::WHEELS;
 ghost use mathlib.Core.Path.{_≡_};
 ghost use Prim.Native.Nat.{_+_, _≤_};
 ghost use lib.ListN.{length, take};
+ghost use Rattle.lists.specs.Pick.{pick};
 ghost use Rattle.lists.specs.Part.{paste};
 ghost use Rattle.lists.specs.Puts.{Puts};
 ghost use Rattle.table.specs.Layout as at;
 ghost use Rattle.lines.specs.Layout as line;
 ghost use Rattle.aim.specs.Sights.{sightList, sightsList};
+ghost use Rattle.read_wheel.specs.Read as read;
 ghost use Rattle.scenario.specs.Format.{format};
 ghost use Rattle.scenario.specs.Results.{wordsOf};
-ghost use Rattle.replies.specs.Replies.{aimResults, driveResults, readResults};
+ghost use Rattle.replies.specs.Replies.{aimResults, driveResults, readResults, settledResults};
 
 // Where a wheel's ray starts, and the ray, from word a on.
 fn put_sight(words: &mut [u32], a: usize, s: Sight)
@@ -69,12 +72,20 @@ pub fn put_driven(words: &mut [u32], r: Driven) -> usize
     VELOCITIES + 1
 }
 
-// The numbers of a wheel.
-pub fn put_reading(words: &mut [u32], r: Reading) -> usize
-    requires { ⌜ length (now words) ≡ line.RESULTS ⌝ }
-    ensures { λ k. ⌜ Puts (now (words .entry)) (now (words .exit)) 0 k (readResults format r) ⌝ }
+// How many numbers a read has, with the settled centre or without.
+fn reading_count(settled: bool) -> usize
+    ensures { λ k. ⌜ k ≡ pick settled read.SETTLED read.READING ⌝ }
 {
-    let numbers = reading_numbers(r);
-    results::put_numbers(words, 0, &numbers);
-    READING
+    if settled { SETTLED } else { READING }
+}
+
+// The numbers of a wheel, with its settled centre or without.
+pub fn put_reading(words: &mut [u32], settled: bool, r: Reading) -> usize
+    requires { ⌜ length (now words) ≡ line.RESULTS ⌝ }
+    ensures { λ k. ⌜ Puts (now (words .entry)) (now (words .exit)) 0 k (pick settled (settledResults format r) (readResults format r)) ⌝ }
+{
+    let numbers = settled_numbers(r);
+    let count = reading_count(settled);
+    results::put_numbers(words, 0, &numbers[..count]);
+    count
 }

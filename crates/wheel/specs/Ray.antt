@@ -21,6 +21,10 @@ use Rattle.wheel.specs.Parts.{withInfo, withPlace, withApproach, withHar
 unfoldable pub centreOf : Format → Vector → Vector → Float → Vector
 centreOf f hard direction length = addV f hard (scaleV f direction length)
 
+-- Change request 2026-02. "a settled centre, hard point plus direction times this drive's length": of what a row keeps after a drive. It is where the tyre is drawn; `place .centre` is rule 1's, with the length from before the cast.
+unfoldable pub settledCentre : Format → Wheel → Vector
+settledCentre f w = centreOf f (w .info .hard) (w .place .direction) (w .info .length)
+
 -- Rule 1. Hard point = pose of the connection point; direction rotated by the chassis; axle rotated by the chassis and then by steering.
 unfoldable pub updateWheelTransform : Format → Pose → Wheel → Wheel
 updateWheelTransform f pose w =

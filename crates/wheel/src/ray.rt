@@ -11,13 +11,20 @@ use vector::Pose;
 use vector::Vector;
 ghost use mathlib.Core.Path.{_≡_};
 ghost use lib.Ieee.{binary32};
-ghost use Rattle.wheel.specs.Ray.{centreOf, updateWheelTransform, rayOf, isZero, upwardNormal, isUndefined, contactNormal, hitOf, missOf, rayCast, isGrounded, namedOf};
+ghost use Rattle.wheel.specs.Ray.{centreOf, settledCentre, updateWheelTransform, rayOf, isZero, upwardNormal, isUndefined, contactNormal, hitOf, missOf, rayCast, isGrounded, namedOf};
 
 // Rule 1: the centre of a wheel at this length from its hard point.
 fn centre_of(hard: Vector, direction: Vector, length: f32) -> Vector
     ensures { λ r. ⌜ r ≡ centreOf binary32 hard direction length ⌝ }
 {
     vector::add(hard, vector::scale(direction, length))
+}
+
+// Change request 2026-02: where the tyre of a driven wheel is drawn, at this drive's length.
+pub fn settled_centre(w: Wheel) -> Vector
+    ensures { λ r. ⌜ r ≡ settledCentre binary32 w ⌝ }
+{
+    centre_of(w.info.hard, w.place.direction, w.info.length)
 }
 
 // Rule 1: the wheel under the chassis' pose. The centre still has the length of the drive before.

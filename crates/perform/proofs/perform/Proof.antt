@@ -1,6 +1,7 @@
 -- `perform::perform` meets its contract: the definition, replayed as the code runs. Assumes nothing.
 use borrow.Author.Needs.{needs}
 use mathlib.Core.Path.{_≡_, sym, _∙_}
+use Rattle.lists.specs.Pick.{pick}
 use Rattle.set_controls.specs.Controls.{setControls}
 use Rattle.grammar.specs.declared.Asked.{Asked}
 use Rattle.grammar.specs.Grammar.{asked}
@@ -67,17 +68,24 @@ returns-5 c =
     rw (asks (arm .before .before) _ (arm .enum-told5 .given .1)) (call .call-drive .ensures)
 
 returns-6 : tie.Need-returns-6
-unfolding callOf callFor
+unfolding callOf callFor pick
 returns-6 c =
     let call = c .before .before in
     let arm = call .before .before .before .before in
     rw (asks (arm .before .before) _ (arm .enum-told6 .given .1)) (call .call-read .ensures)
 
 returns-7 : tie.Need-returns-7
-unfolding callOf callFor
+unfolding callOf callFor pick
 returns-7 c =
+    let call = c .before .before in
+    let arm = call .before .before .before .before in
+    rw (asks (arm .before .before) _ (arm .enum-told7 .given .1)) (call .call-read2 .ensures)
+
+returns-8 : tie.Need-returns-8
+unfolding callOf callFor
+returns-8 c =
     let arm = c .before in
-    rw (asks (arm .before .before) _ (arm .enum-told7 .given .1)) (told-none _ _ _ _ (c .no-call2 .ensures))
+    rw (asks (arm .before .before) _ (arm .enum-told8 .given .1)) (told-none _ _ _ _ (c .no-call2 .ensures))
 
 pub perform-spec : {M : Type 1} → statement M
 perform-spec =
@@ -95,6 +103,8 @@ perform-spec =
     (λ c κs. search needs)
     (λ c. search needs)
     call-drive-requires
+    (λ c. search needs)
+    (λ c κs. search needs)
     (λ c. search needs)
     (λ c κs. search needs)
     (λ c. search needs)
@@ -118,4 +128,8 @@ perform-spec =
     (λ c. search needs)
     (λ c. search needs)
     returns-6
-    returns-7)
+    (λ c. search needs)
+    (λ c. search needs)
+    (λ c. search needs)
+    returns-7
+    returns-8)

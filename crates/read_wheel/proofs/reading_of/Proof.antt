@@ -1,12 +1,11 @@
 -- `read_wheel::reading_of` meets its contract: the definition, replayed as the code runs. Assumes nothing.
-use mathlib.Core.Path.{refl}
 use Rattle.read_wheel.specs.Read.{readingOf}
 use Rattle.read_wheel.proofs.reading_of.Statement.{statement}
 use Rattle.read_wheel.proofs.reading_of.Tie as tie
 
 returns : tie.Need-returns
 unfolding readingOf
-returns c = refl
+returns c = rw (← c .settled-centre .ensures)
 
 pub reading-of-spec : {M : Type 1} → statement M
-reading-of-spec = tie.close (tie.spec returns)
+reading-of-spec = tie.close (tie.spec (λ c κs. tt) returns)

@@ -30,8 +30,12 @@ unfolding asked pick
 returns-6 c = rw (c .match .keys6)
 
 returns-7 : tie.Need-returns-7
+unfolding asked pick
+returns-7 c = rw (c .match .keys7)
+
+returns-8 : tie.Need-returns-8
 unfolding asked
-returns-7 c = search picks depth 40 fits 4000
+returns-8 c = search picks depth 40 fits 4000
 
 pub asked-spec : {M : Type 1} → statement M
-asked-spec = tie.close (tie.spec returns returns-2 returns-3 returns-4 returns-5 returns-6 returns-7)
+asked-spec = tie.close (tie.spec returns returns-2 returns-3 returns-4 returns-5 returns-6 returns-7 returns-8)
