@@ -5,25 +5,27 @@ use mathlib.Core.List.{_∷_}
 use mathlib.Core.Path.{_≡_, refl}
 use lib.Dec.{lit<}
 use lib.Ieee.{binary32}
-use Rattle.real.specs.Number.{zero}
+use Rattle.real.specs.Number.{zero, one, two, half}
 use Rattle.marked.specs.Numbers.{three, four, twelve}
 use Rattle.tyre.specs.Demand3.{Grips, WithinBrake}
 use Rattle.table.specs.Layout as at
-use Rattle.table.specs.Rows.{chassisAt}
+use Rattle.table.specs.Rows.{wheelAt, chassisAt}
 use Rattle.refusals.specs.Shape.{countOf, upOf, forwardOf}
 use Rattle.refusals.specs.Normals.{normalsOk}
 use Rattle.refusals.specs.After.{after, marked}
 use Rattle.passes.specs.Passes.{stored}
 use Rattle.passes.specs.Step.{wholeStep}
+use Rattle.read_wheel.specs.Read.{readingOf}
 use Rattle.aim.specs.Aim.{aimOf, refuseAim, aimedBy, aimedTable}
 use Rattle.drive.specs.Drive.{driveOf, drivenBy}
 use Rattle.demands.specs.History.{State, SetUp, Drive, ReadWheel, accepted, run, drivenSince, readAfter}
 use Rattle.demands.specs.Held.{Held, handsHeld, HandsHeld}
 use Rattle.demands.specs.Update.{Placed, updateOf, updated}
-use Rattle.demands.specs.Impulses.{Accepted, Stepped, stepAfter, forwardDemand, sideDemand, forwardImpulse, sideImpulse, skidAt}
+use Rattle.demands.specs.Impulses.{Step, Accepted, Stepped, stepAfter, drivenWheel, forwardDemand, sideDemand, forwardImpulse, sideImpulse, skidAt}
+use Rattle.demands.specs.Settled.{readAfterDrive, withLength, centreUnder}
 use Rattle.demands.proofs.Demands as demands
-use Rattle.witnesses.specs.Car.{minus-two, minus-four, five-halves, rolling, road, stretched}
-use Rattle.witnesses.specs.Calls.{lent, fitted, aimed, otherDriven, otherCalls, leftBy, theDrive, otherDrive}
+use Rattle.witnesses.specs.Car.{minus-two, minus-four, five-halves, vector, front, pressed, rolling, road, stretched}
+use Rattle.witnesses.specs.Calls.{lent, fitted, aimed, otherDriven, otherCalls, leftBy, raised, placed, theDrive, otherDrive}
 use Rattle.witnesses.specs.Opened.{opened}
 use Rattle.witnesses.proofs.Drives.{drive-accepted, stepped, front-grounded, front-limit, front-slides, rear-grounded, rear-grips, rear-unpowered, lifted-unpowered, other-accepted, alike}
 
@@ -62,6 +64,18 @@ witness-accepted-normals = demands.accepted-normals binary32 (theDrive .table) (
 pub stretched-are-none : normalsOk binary32 (stretched .answer 0) ≡ false
 unfolding opened
 stretched-are-none = refl
+
+-- ---- the two centres after the drive. The front wheel settles on the ground, its radius of 1 above it; the old centre still hangs at the hard point, at the length 0 of a new wheel
+pub witness-driven-is-read : readAfterDrive binary32 theDrive 0 .reply ≡ readingOf binary32 (drivenWheel binary32 theDrive 0)
+witness-driven-is-read = demands.driven-is-read binary32 theDrive 0 drive-accepted (lit< tt)
+
+pub witness-settled-after-drive : readAfterDrive binary32 theDrive 0 .reply .settled ≡ vector two one one
+unfolding opened
+witness-settled-after-drive = demands.settled-after-drive binary32 theDrive 0 drive-accepted (lit< tt)
+
+pub witness-centre-after-drive : readAfterDrive binary32 theDrive 0 .reply .centre ≡ raised (front .connection)
+unfolding opened
+witness-centre-after-drive = demands.centre-after-drive binary32 theDrive 0 drive-accepted (lit< tt)
 
 -- ---- demand 2
 abbrev car : State
@@ -104,6 +118,34 @@ pub witness-drive-is-update :
     driveOf binary32 (leftBy aimed .table) (leftBy aimed .whole) road 3 ≡ updated binary32 (leftBy aimed .whole) (chassisAt (leftBy aimed .table)) road 3 (leftBy aimed .table)
 witness-drive-is-update = demands.drive-is-update binary32 lent 1 0 aimed set-up-accepted road 3 then-driven
 
+-- ---- the centres of that drive by rule 1, and the next aim
+abbrev aimedDriven : Step
+aimedDriven = stepAfter binary32 (SetUp 1 0 ∷ aimed) lent road 3
+
+then-driven-accepted : Accepted binary32 aimedDriven
+unfolding opened
+then-driven-accepted = refl
+
+pub witness-settled-is-rule-1 : readAfterDrive binary32 aimedDriven 0 .reply .settled ≡ centreUnder binary32 (rolling twelve .pose) (withLength (placed front (pressed twelve zero)) half)
+unfolding opened
+witness-settled-is-rule-1 = demands.settled-is-rule-1 binary32 lent 1 0 aimed set-up-accepted road 3 0 then-driven-accepted (lit< tt)
+
+pub witness-centre-is-rule-1 : readAfterDrive binary32 aimedDriven 0 .reply .centre ≡ centreUnder binary32 (rolling twelve .pose) (placed front (pressed twelve zero))
+unfolding opened
+witness-centre-is-rule-1 = demands.centre-is-rule-1 binary32 lent 1 0 aimed set-up-accepted road 3 0 then-driven-accepted (lit< tt)
+
+-- the car aimed again where it stands
+abbrev driven : State
+driven = run binary32 (Drive road 3) (leftBy aimed)
+
+aimed-again : refuseAim binary32 (driven .table) (driven .whole) (rolling twelve) ≡ 0
+unfolding opened
+aimed-again = refl
+
+pub witness-settled-is-next-centre : wheelAt (aimOf binary32 (driven .table) (driven .whole) (rolling twelve) .table) 0 .place .centre ≡ readAfterDrive binary32 aimedDriven 0 .reply .settled
+unfolding opened
+witness-settled-is-next-centre = demands.settled-is-next-centre binary32 lent 1 0 aimed set-up-accepted road 3 0 then-driven-accepted (lit< tt) (rolling twelve) refl aimed-again
+
 -- ---- demand 3
 -- the front wheel, with its numbers: 3² / 4 + 2² is (5/2)²
 pub witness-sliding-grips : Grips binary32 (2 ^ 20) three minus-two five-halves
@@ -143,9 +185,5 @@ drive-hands-held = refl
 pub witness-call-keeps-held : Held binary32 (run binary32 (Drive road 3) (leftBy aimed) .table)
 witness-call-keeps-held = demands.call-keeps-held binary32 (Drive road 3) (leftBy aimed) drive-hands-held witness-history-is-held
 
-after-accepted : Accepted binary32 (stepAfter binary32 (SetUp 1 0 ∷ aimed) lent road 3)
-unfolding opened
-after-accepted = refl
-
-pub witness-history-is-stepped : Stepped binary32 (stepAfter binary32 (SetUp 1 0 ∷ aimed) lent road 3) 0
-witness-history-is-stepped = demands.history-is-stepped binary32 lent 1 0 aimed set-up-accepted hands-held road 3 0 after-accepted (lit< tt)
+pub witness-history-is-stepped : Stepped binary32 aimedDriven 0
+witness-history-is-stepped = demands.history-is-stepped binary32 lent 1 0 aimed set-up-accepted hands-held road 3 0 then-driven-accepted (lit< tt)

@@ -91,10 +91,10 @@ read-refuses : refuseRead t m 0 ≡ 5
 unfolding opened
 read-refuses = refl
 
-pub witness-read-number : readWheel t m 0 .reply .number ≡ 5
+pub witness-read-number : readWheel binary32 t m 0 .reply .number ≡ 5
 witness-read-number = demands.read-number binary32 t m 0 ∙ read-refuses
 
-pub witness-read-refused : readWheel t m 0 ≡ after (notRead 5) t m
+pub witness-read-refused : readWheel binary32 t m 0 ≡ after (notRead 5) t m
 witness-read-refused = demands.read-refused binary32 t m 0 (not-zero 5 read-refuses refl) ∙ ap (λ (n : ℕ). after (notRead n) t m) read-refuses
 
 -- ---- any refusal, and any answer

@@ -14,7 +14,7 @@ use Rattle.body.specs.Body.{velocityAtPoint, applyImpulseAtPoint, impulseDenomi
 use Rattle.tyre.specs.Suspension.{suspensionLength, approachOf, dampingOf, suspensionForce, cutOf}
 use Rattle.tyre.specs.Demand.{sideResponse, rollingResponse, rollingOf}
 use Rattle.tyre.specs.Grip.{loadOf, slides, skidOf, withSkid, rescaledBy, rescaledOf, brakedOf, limitOf}
-use Rattle.wheel.specs.Ray.{centreOf, updateWheelTransform, rayOf, isZero, upwardNormal, isUndefined, contactNormal, hitOf, missOf, rayCast, isGrounded, namedOf}
+use Rattle.wheel.specs.Ray.{centreOf, settledCentre, updateWheelTransform, rayOf, isZero, upwardNormal, isUndefined, contactNormal, hitOf, missOf, rayCast, isGrounded, namedOf}
 use Rattle.road.specs.Contact.{contactAxis, contactForward, directionsOf, dynamicGround, relativeVelocity, swingOf, jacobianDiagonal, denominatorsOf}
 use Rattle.road.specs.Step.{contactForce, wheelForce, suspendedOf, applySuspension, wheelLimit, sideDemand, rollingDemand, frictionOf, sidePoint, applyFriction, contactSpin, spunBy}
 use Rattle.road.specs.Step.{updateRotation}
@@ -34,7 +34,7 @@ use Rattle.passes.specs.Step.{sprung, demanded, pushed, spun, demandStep, whole
 use Rattle.set_up.specs.SetUp.{refuseSetUp, setUp}
 use Rattle.add_wheel.specs.Add.{blankWheel, newWheel, refuseAdd, addWheel}
 use Rattle.set_controls.specs.Controls.{unaimed, refuseControls, setControls}
-use Rattle.read_wheel.specs.Read.{refuseRead, notRead, readingOf, readingList, readWheel}
+use Rattle.read_wheel.specs.Read.{refuseRead, notRead, readingOf, readingList, settledList, readWheel}
 use Rattle.aim.specs.Aim.{speedOf, aimedTable, noSight, sightOf, sightsOf, chassisTests, placeTests, refuseAim, notAimed, aimedBy, aimOf}
 use Rattle.aim.specs.Sights.{sightList, sightsList, aimedList}
 use Rattle.early.specs.Early.{frameTests, numberTests, rangeTests, earlyTests}
@@ -44,8 +44,9 @@ use Rattle.demands.specs.History.{answered, accepted, run, runAll, drives, undr
 use Rattle.demands.specs.Answers.{isOneOf, answers}
 use Rattle.demands.specs.Held.{areHeld, normalsIn, handsHeld}
 use Rattle.demands.specs.Update.{updateOf, updated}
+use Rattle.demands.specs.Settled.{lengthBy}
 use Rattle.scenario.specs.Results.{wordsOf, flagWord}
-use Rattle.replies.specs.Replies.{aimResults, driveResults, readResults}
+use Rattle.replies.specs.Replies.{aimResults, driveResults, settledResults}
 use Rattle.witnesses.specs.Stream.{answerWords, answersWords, callWords, streamWords, resultsOf, answerOf, answersTo}
 
 unfoldable pub open-lists : Unit {0}
@@ -61,7 +62,7 @@ unfolding zeroV addV subV negV scaleV partsV dotV crossV lengthV normalizeOrZero
 open-vectors = tt
 
 unfoldable pub open-bodies : Unit {0}
-unfolding velocityAtPoint applyImpulseAtPoint impulseDenominator centreOf updateWheelTransform rayOf isZero upwardNormal isUndefined contactNormal hitOf missOf rayCast isGrounded namedOf
+unfolding velocityAtPoint applyImpulseAtPoint impulseDenominator centreOf settledCentre updateWheelTransform rayOf isZero upwardNormal isUndefined contactNormal hitOf missOf rayCast isGrounded namedOf
 open-bodies = tt
 
 unfoldable pub open-tyres : Unit {0}
@@ -101,7 +102,7 @@ unfolding groundedAt groundedWheels groundNamed groundUnder sprung demanded push
 open-steps = tt
 
 unfoldable pub open-calls : Unit {0}
-unfolding refuseSetUp setUp blankWheel newWheel refuseAdd addWheel unaimed refuseControls setControls refuseRead notRead readingOf readingList readWheel
+unfolding refuseSetUp setUp blankWheel newWheel refuseAdd addWheel unaimed refuseControls setControls refuseRead notRead readingOf readingList settledList readWheel
 open-calls = tt
 
 unfoldable pub open-aims : Unit {0}
@@ -113,11 +114,11 @@ unfolding frameTests numberTests rangeTests earlyTests stepTests refuseUnder ref
 open-drives = tt
 
 unfoldable pub open-histories : Unit {0}
-unfolding answered accepted run runAll drives undrives noneUndrives drivenSince isOneOf answers areHeld normalsIn handsHeld updateOf updated
+unfolding answered accepted run runAll drives undrives noneUndrives drivenSince isOneOf answers areHeld normalsIn handsHeld updateOf updated lengthBy
 open-histories = tt
 
 unfoldable pub open-streams : Unit {0}
-unfolding wordsOf flagWord aimResults driveResults readResults answerWords answersWords callWords streamWords resultsOf answerOf answersTo
+unfolding wordsOf flagWord aimResults driveResults settledResults answerWords answersWords callWords streamWords resultsOf answerOf answersTo
 open-streams = tt
 
 unfoldable pub opened : Unit {0}

@@ -1,6 +1,7 @@
 //! Running a program on a scenario, and comparing what it printed with what the oracle says.
 #![forbid(unsafe_code)]
 
+mod centres;
 mod difference;
 mod normals;
 mod runner;

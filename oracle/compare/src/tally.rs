@@ -6,10 +6,22 @@ use std::fmt;
 use vehicle::program::Line;
 use vehicle::table::{ACCEPTED, MALFORMED};
 
+use crate::centres::Centres;
 use crate::normals::Normals;
 
 /// The refusal numbers of document 01 and of the change requests, 0 included.
 const ANSWERS: [u32; 12] = [0, 1, 2, 3, 4, 5, 6, 7, 8, 9, 10, 12];
+
+/// The codes that there are, and what each is called.
+const CODES: [(u32, &str); 7] = [
+    (0, "end"),
+    (1, "add"),
+    (2, "controls"),
+    (3, "aim"),
+    (4, "drive"),
+    (5, "read"),
+    (8, "read settled"),
+];
 
 /// Counts over all scenarios.
 #[derive(Clone, Debug, Default)]
@@ -24,6 +36,7 @@ pub struct Tally {
     sliding_unscaled: u64,
     /// Drives in which some wheels slid and others gripped.
     mixed_drives: u64,
+    centres: Centres,
     normals: Normals,
 }
 
@@ -33,6 +46,7 @@ impl Tally {
         for line in lines {
             *self.codes.entry((line.code, line.answer)).or_default() += 1;
             self.add_wheels(line);
+            self.centres.add(line);
             self.normals.add(line);
         }
     }
@@ -62,6 +76,7 @@ impl Tally {
         self.sliding += other.sliding;
         self.sliding_unscaled += other.sliding_unscaled;
         self.mixed_drives += other.mixed_drives;
+        self.centres = self.centres.and(other.centres);
         self.normals = self.normals.and(other.normals);
         self
     }
@@ -86,10 +101,10 @@ impl fmt::Display for Tally {
         let kinds: Vec<String> =
             self.scenarios.iter().map(|(kind, count)| format!("{kind} {count}")).collect();
         writeln!(out, "scenarios        {} ({})", self.scenarios(), kinds.join(", "))?;
-        let well_formed = |code, answer| code <= 5 && answer != MALFORMED;
+        let is_known = |code| CODES.iter().any(|(known, _)| *known == code);
+        let well_formed = |code, answer| is_known(code) && answer != MALFORMED;
         writeln!(out, "codes            {}", self.count(well_formed))?;
-        for (code, name) in ["end", "add", "controls", "aim", "drive", "read"].iter().enumerate() {
-            let code = code as u32;
+        for (code, name) in CODES {
             let answers: Vec<String> = ANSWERS
                 .into_iter()
                 .map(|answer| (answer, self.count(|c, a| c == code && a == answer)))
@@ -98,7 +113,7 @@ impl fmt::Display for Tally {
                 .collect();
             writeln!(out, "  {code} {name:<12} {}", answers.join(", "))?;
         }
-        let unknown = self.count(|code, _| code > 5);
+        let unknown = self.count(|code, _| !is_known(code));
         writeln!(out, "  unknown codes  {unknown}")?;
         writeln!(out, "accepted drives  {}", self.count(|c, a| c == 4 && a == ACCEPTED))?;
         writeln!(out, "  gripping and sliding wheels in one drive: {}", self.mixed_drives)?;
@@ -108,7 +123,7 @@ impl fmt::Display for Tally {
             self.sliding, self.gripping, self.airborne
         )?;
         writeln!(out, "  sliding with a skid not below 1: {}", self.sliding_unscaled)?;
-        write!(out, "{}", self.normals)?;
+        write!(out, "{}{}", self.centres, self.normals)?;
         let seen = ANSWERS.map(|answer| format!("{answer}: {}", self.count(|_, a| a == answer)));
         writeln!(out, "answers          {}", seen.join(", "))
     }

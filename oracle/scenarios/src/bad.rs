@@ -107,6 +107,7 @@ fn spoil_count(random: &mut Random, code: &Code) -> Code {
     match code {
         Code::Controls(_, controls) => Code::Controls(nowhere, *controls),
         Code::Read(_) => Code::Read(nowhere),
+        Code::ReadSettled(_) => Code::ReadSettled(nowhere),
         Code::Drive(drive) => {
             let mut drive = drive.clone();
             let hit = drive.answers.iter_mut().flatten().next();

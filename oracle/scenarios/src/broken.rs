@@ -113,7 +113,7 @@ fn one_whole_changed(random: &mut Random, tokens: &[Token]) -> Vec<u8> {
     let wholes: Vec<usize> =
         (0..tokens.len()).filter(|place| matches!(tokens[*place], Token::Whole(_))).collect();
     let mut tokens = tokens.to_vec();
-    let value = random.pick(&[0, 1, 2, 3, 4, 5, 6, 7, 16, 17, 64, 65, 127, 128, 300, u32::MAX]);
+    let value = random.pick(&[0, 1, 2, 3, 4, 5, 6, 7, 8, 9, 16, 17, 64, 65, 127, 128, 300, u32::MAX]);
     tokens[random.pick(&wholes)] = Token::Whole(value);
     bytes_of(&tokens)
 }
@@ -124,7 +124,7 @@ fn code_in_place(random: &mut Random, codes: &[Code]) -> Vec<u8> {
     let before: Vec<Token> = codes[..place].iter().flat_map(Code::tokens).collect();
     let after: Vec<Token> = codes[place..].iter().flat_map(Code::tokens).collect();
     let odd = match random.below(6) {
-        0 => vec![Token::Whole(random.pick(&[6, 7, 8, 9, 10, 11, 128, 16_384, u32::MAX]))],
+        0 => vec![Token::Whole(random.pick(&[6, 7, 9, 10, 11, 128, 16_384, u32::MAX]))],
         1 => drive_of(random, 65, 2),
         2 => drive_of(random, 64, 2),
         3 => drive_of(random, 0, 17),
@@ -161,7 +161,7 @@ mod tests {
     fn the_unbroken_stream_has_every_code() {
         let lines = program::run(&unbroken());
         assert!(lines.iter().all(|line| line.answer == 0));
-        for code in 0..=5 {
+        for code in [0, 1, 2, 3, 4, 5, 8] {
             assert!(lines.iter().any(|line| line.code == code), "code {code}");
         }
     }

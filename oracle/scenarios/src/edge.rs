@@ -224,7 +224,7 @@ fn short_drive(random: &mut Random) -> Vec<Code> {
         Code::Aim(plain_chassis()),
         Code::Drive(drive),
         Code::Read(0),
-        Code::Read(1),
+        Code::ReadSettled(1),
     ]
 }
 
@@ -496,8 +496,12 @@ fn far_away(random: &mut Random) -> Vec<Code> {
         (MOST, MOST),
         (1.0, MOST),
     ]);
-    let wheel = NewWheel { direction, rest_length, radius, travel: MOST, ..plain_wheel() };
-    script.add(NewWheel { stiffness: 0.0, compression: 0.0, damping: 0.0, ..wheel });
+    // With a hit at time 0 the wheel is up to 2^40 above its hard point: from this one on, beyond the bound.
+    let height = random.pick(&[0.0, 0.0, MOST, -MOST]);
+    let connection_point = Vector::new(0.0, height, 0.0);
+    let wheel = NewWheel { connection_point, direction, rest_length, radius, ..plain_wheel() };
+    let soft = NewWheel { stiffness: 0.0, compression: 0.0, damping: 0.0, ..wheel };
+    script.add(NewWheel { travel: MOST, ..soft });
     for _ in 0..3 {
         let mut chassis = plain_chassis();
         chassis.pose.rotation = rotation(random);

@@ -1,4 +1,5 @@
-//! The example of `examples/`: a small car on flat ground rolls, brakes and steers.
+//! The examples of `examples/`: a small car on flat ground rolls, brakes and steers; and it drops and
+//! lands.
 //!
 //! As in `car`, the chassis is moved between the frames from the oracle's own answers.
 
@@ -16,6 +17,9 @@ const REST: f32 = 0.3;
 const RADIUS: f32 = 0.35;
 const STIFFNESS: f32 = 25.0;
 const CONNECTION: f32 = -0.2;
+/// How far above its place at rest the car that lands is let go, and for how many frames it is seen.
+const DROP: f32 = 0.3;
+const LANDING_FRAMES: usize = 16;
 
 /// What the driver does for some frames.
 struct Driver {
@@ -38,10 +42,24 @@ pub fn example() -> Vec<u8> {
     let mut chassis = standing();
     for driver in &DRIVERS {
         for _ in 0..FRAMES {
-            chassis = frame(&mut script, driver, chassis);
+            chassis = frame(&mut script, driver, chassis, 4);
         }
     }
     read_too_early(&mut script, chassis);
+    stream_of(&script.finished())
+}
+
+/// The bytes of the car that drops and lands: its first wheel is read in each frame.
+pub fn landing() -> Vec<u8> {
+    let mut script = with_wheels();
+    let mut chassis = standing();
+    chassis.linear = Vector::ZERO;
+    chassis.pose.translation.y += DROP;
+    chassis = settled(chassis);
+    let coasting = Driver { engine: 0.0, brake: 0.0, steer: 0.0 };
+    for _ in 0..LANDING_FRAMES {
+        chassis = frame(&mut script, &coasting, chassis, 1);
+    }
     stream_of(&script.finished())
 }
 
@@ -69,7 +87,7 @@ fn with_wheels() -> Script {
 /// A wheel read between aim and drive: refused.
 fn read_too_early(script: &mut Script, chassis: Chassis) {
     script.aim(chassis);
-    script.read(0);
+    script.read_settled(0);
 }
 
 fn wheel(connection_point: Vector) -> NewWheel {
@@ -118,8 +136,8 @@ fn settled(chassis: Chassis) -> Chassis {
     }
 }
 
-/// Controls, aim, drive, and every wheel read; the chassis of the next frame.
-fn frame(script: &mut Script, driver: &Driver, chassis: Chassis) -> Chassis {
+/// Controls, aim, drive, and the first wheels read; the chassis of the next frame.
+fn frame(script: &mut Script, driver: &Driver, chassis: Chassis, reads: u32) -> Chassis {
     let up = chassis.pose.rotation * Vector::new(0.0, 1.0, 0.0);
     for wheel in 0..4 {
         let is_front = wheel < 2;
@@ -134,7 +152,9 @@ fn frame(script: &mut Script, driver: &Driver, chassis: Chassis) -> Chassis {
     }
     let answers = script.aim(chassis).rays.iter().map(|ray| ground(*ray)).collect();
     let driven = script.drive(Drive { dt: DT, bodies: Vec::new(), answers });
-    script.read_all();
+    for wheel in 0..reads {
+        script.read_settled(wheel);
+    }
     moved(chassis, driven.linear, driven.angular)
 }
 

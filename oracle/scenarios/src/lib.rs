@@ -19,7 +19,7 @@ mod wild;
 use random::Random;
 
 pub use broken::unbroken;
-pub use example::{drives, example};
+pub use example::{drives, example, landing};
 pub use rubbish::{rubbish, Rubbish};
 
 /// What a scenario is like.

@@ -1,20 +1,21 @@
 //! `scenarios KIND SEED`: writes the scenario's bytes to standard output. The kind `rubbish`
 //! writes a table's contents and codes, as `oracle --state` reads them. `scenarios example` writes
-//! the example of `examples/`, `scenarios drives N` a stream of N aims and drives, `scenarios
-//! unbroken` the stream that the kind `broken` starts from.
+//! the example of `examples/`, `scenarios landing` the landing there, `scenarios drives N` a stream
+//! of N aims and drives, `scenarios unbroken` the stream that the kind `broken` starts from.
 #![forbid(unsafe_code)]
 
 use std::io::{self, BufWriter, Write};
 use std::process::ExitCode;
 
-use scenarios::{drives, example, generate, rubbish, unbroken, Kind};
+use scenarios::{drives, example, generate, landing, rubbish, unbroken, Kind};
 
 fn main() -> ExitCode {
     let arguments: Vec<String> = std::env::args().skip(1).collect();
     let Some(written) = write(&arguments) else {
         let names = Kind::ALL.map(Kind::name).join(" | ");
         eprintln!("usage: scenarios {names} | rubbish SEED > stream");
-        eprintln!("       scenarios example | unbroken > stream, scenarios drives N > stream");
+        eprintln!("       scenarios example | landing | unbroken > stream");
+        eprintln!("       scenarios drives N > stream");
         return ExitCode::from(2);
     };
     match written {
@@ -28,6 +29,7 @@ fn write(arguments: &[String]) -> Option<io::Result<()>> {
     let mut out = BufWriter::new(io::stdout().lock());
     match arguments {
         [kind] if kind == "example" => Some(out.write_all(&example())),
+        [kind] if kind == "landing" => Some(out.write_all(&landing())),
         [kind] if kind == "unbroken" => Some(out.write_all(&unbroken())),
         [kind, count] if kind == "drives" => Some(write_drives(&mut out, count.parse().ok()?)),
         [kind, seed] => Some(out.write_all(&scenario(kind, seed.parse().ok()?)?)),

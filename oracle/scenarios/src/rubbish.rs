@@ -103,7 +103,8 @@ fn codes(random: &mut Random, table: &Table) -> Vec<Code> {
             2 | 3 => Code::Aim(size.chassis(random)),
             4 | 5 => Code::Drive(size.drive(random, wheels)),
             6 => Code::Drive(Drive { dt: 0.0, bodies: vec![], answers: vec![None; wheels] }),
-            _ => Code::Read(wheel),
+            _ if random.once_in(4) => Code::Read(wheel),
+            _ => Code::ReadSettled(wheel),
         });
     }
     codes.push(Code::End);

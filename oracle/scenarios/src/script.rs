@@ -9,6 +9,7 @@ use vehicle::table::{Aimed, Driven, Table};
 pub struct Script {
     pub codes: Vec<Code>,
     pub table: Table,
+    reads: usize,
 }
 
 impl Script {
@@ -37,8 +38,16 @@ impl Script {
         driven
     }
 
+    /// Two reads of five are by code 5 and three by code 8, so that few vehicles have each of their
+    /// wheels read by one code alone.
     pub fn read(&mut self, wheel: u32) {
-        self.codes.push(Code::Read(wheel));
+        let by_code_5 = matches!(self.reads % 5, 1 | 3);
+        self.reads += 1;
+        self.codes.push(if by_code_5 { Code::Read(wheel) } else { Code::ReadSettled(wheel) });
+    }
+
+    pub fn read_settled(&mut self, wheel: u32) {
+        self.codes.push(Code::ReadSettled(wheel));
     }
 
     pub fn read_all(&mut self) {

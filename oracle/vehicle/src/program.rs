@@ -4,7 +4,7 @@ use std::fmt::Write;
 
 use crate::handed::Hit;
 use crate::stream::{Code, Malformed, Reader};
-use crate::table::{Grip, Table, ACCEPTED, MALFORMED};
+use crate::table::{Grip, Table, WheelRead, ACCEPTED, MALFORMED};
 
 /// The first line of every output.
 pub const TITLE: &str = "vehicle 1";
@@ -68,21 +68,32 @@ pub fn call(table: &mut Table, code: &Code) -> Line {
         }
         Code::Read(wheel) => {
             let read = table.read_wheel(*wheel);
-            let mut floats = Vec::new();
-            for vector in [read.center, read.world_direction, read.world_axle] {
-                floats.extend(vector.parts());
-            }
-            floats.extend([
-                read.suspension_length,
-                read.suspension_force,
-                read.forward_impulse,
-                read.side_impulse,
-                read.skid,
-                read.rotation,
-            ]);
-            Line::with_results(5, read.answer, words(&floats))
+            Line::with_results(5, read.answer, words(&fifteen(&read)))
+        }
+        Code::ReadSettled(wheel) => {
+            let read = table.read_wheel(*wheel);
+            let mut floats = fifteen(&read);
+            floats.extend(read.settled.parts());
+            Line::with_results(8, read.answer, words(&floats))
         }
     }
+}
+
+/// Document 01's results of a read.
+fn fifteen(read: &WheelRead) -> Vec<f32> {
+    let mut floats = Vec::new();
+    for vector in [read.center, read.world_direction, read.world_axle] {
+        floats.extend(vector.parts());
+    }
+    floats.extend([
+        read.suspension_length,
+        read.suspension_force,
+        read.forward_impulse,
+        read.side_impulse,
+        read.skid,
+        read.rotation,
+    ]);
+    floats
 }
 
 fn words(floats: &[f32]) -> Vec<u32> {

@@ -19,6 +19,8 @@ pub enum Code {
     Aim(Chassis),
     Drive(Drive),
     Read(u32),
+    /// A read with the settled centre: change request 2026-02.
+    ReadSettled(u32),
 }
 
 /// A malformed place, with the code that it stands in; 0 if the code itself could not be read.
@@ -63,6 +65,7 @@ impl<'a> Reader<'a> {
             3 => Code::Aim(Chassis::from_numbers(self.floats::<CHASSIS>()?)),
             4 => Code::Drive(self.drive()?),
             5 => Code::Read(self.number()?),
+            8 => Code::ReadSettled(self.number()?),
             _ => return Err(Broken),
         })
     }
@@ -224,6 +227,7 @@ impl Code {
                 put_drive(&mut tokens, drive);
             }
             Code::Read(wheel) => tokens.extend([Token::Whole(5), Token::Whole(*wheel)]),
+            Code::ReadSettled(wheel) => tokens.extend([Token::Whole(8), Token::Whole(*wheel)]),
         }
         tokens
     }

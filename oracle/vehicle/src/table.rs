@@ -108,6 +108,8 @@ pub struct WheelRead {
     pub side_impulse: Real,
     pub skid: Real,
     pub rotation: Real,
+    /// Change request 2026-02: the source has no such number.
+    pub settled: Vector,
 }
 
 impl Default for Table {
@@ -229,6 +231,8 @@ impl Table {
             return WheelRead { answer, ..WheelRead::default() };
         }
         let row = self.row(wheel as usize);
+        let hard_point = row.vector(row::HARD_POINT);
+        let along = row.vector(row::WORLD_DIRECTION) * row.0[row::SUSPENSION_LENGTH];
         WheelRead {
             answer,
             center: row.vector(row::CENTER),
@@ -240,6 +244,7 @@ impl Table {
             side_impulse: row.0[row::SIDE_IMPULSE],
             skid: row.0[row::SKID],
             rotation: row.0[row::ROTATION],
+            settled: hard_point + along,
         }
     }
 

@@ -95,6 +95,7 @@ fn codes_read_back() {
         Code::Aim(bench::chassis()),
         Code::Drive(drive),
         Code::Read(300),
+        Code::ReadSettled(300),
         Code::End,
     ];
     for code in codes {

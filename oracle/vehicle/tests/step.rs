@@ -39,6 +39,8 @@ fn the_centre_uses_the_length_of_the_drive_before() {
     table.drive(&drive(&[Hit { time: 0.75, ..hit() }]));
     assert_eq!(table.read_wheel(0).center, Vector::ZERO);
     assert_eq!(table.read_wheel(0).suspension_length, 0.5);
+    // The settled one is where the next aim puts the centre.
+    assert_eq!(table.read_wheel(0).settled, Vector::new(0.0, -0.5, 0.0));
     table.aim(&chassis());
     assert_eq!(table.row(0).vector(row::CENTER), Vector::new(0.0, -0.5, 0.0));
 }
