@@ -15,9 +15,11 @@ impl DynamicRayCastVehicleController {
 }
 
 impl Wheel {
-    /// What a read gives.
-    pub fn reading(&self) -> [Real; 15] {
+    /// What a read gives. The file has no settled centre: it is worked out here from its numbers.
+    pub fn reading(&self) -> [Real; 18] {
         let [centre, direction, axle] = [self.center, self.wheel_direction_ws, self.wheel_axle_ws].map(Vector::parts);
+        let info = &self.raycast_info;
+        let settled = (info.hard_point_ws + self.wheel_direction_ws * info.suspension_length).parts();
         [
             centre[0],
             centre[1],
@@ -34,6 +36,9 @@ impl Wheel {
             self.side_impulse,
             self.skid_info,
             self.rotation,
+            settled[0],
+            settled[1],
+            settled[2],
         ]
     }
 }

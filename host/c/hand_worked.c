@@ -146,7 +146,8 @@ static void show_wheel(const struct car *car, uint32_t wheel)
 }
 
 /* The first frame: two wheels that slide, one with its engine and one on its brake, one that slides sideways, and one that grips.
- * The second is a jump: no ray meets anything. The centre has the length of the drive before, and the wheel spins on. */
+ * The second is a jump: no ray meets anything. The old centre has the length of the drive before, the settled one the rest length, and the wheel
+ * spins on. */
 static void two_frames(struct car *car)
 {
     uint32_t wheel;

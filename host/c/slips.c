@@ -90,6 +90,10 @@ uint32_t vehicle_read_wheel(const float *table, size_t table_len, const uint32_t
         return 0;
     }
 #endif
+#if SLIP == 11 /* the old centre in the settled one's place: every tyre a frame late */
+    if (number == 0)
+        memcpy(results + VEHICLE_READ_SETTLED, results, 3 * sizeof *results);
+#endif
 #if SLIP == 10 /* looks one number beyond the table */
     {
         volatile float beyond = table[table_len];

@@ -104,6 +104,7 @@ static void frames(struct car *car)
     CHECK(are(driven, 12, 8, 2.375f) && are(driven + 3, 0, 0, 0) && driven[6] == 1);
     CHECK(read_wheel(car, 0, tyre) == VEHICLE_ACCEPTED);
     CHECK(are(tyre, 1, 0, 1) && tyre[9] == 0.5f && tyre[10] == 16);
+    CHECK(are(tyre + VEHICLE_READ_SETTLED, 1, -0.5f, 1));
     CHECK(tyre[11] == 3 && tyre[12] == -2 && tyre[13] == 0.5f && tyre[14] == 6);
     CHECK(read_wheel(car, 3, tyre) == VEHICLE_ACCEPTED && tyre[13] == 1);
     CHECK(read_wheel(car, WHEELS, tyre) == VEHICLE_NO_SUCH_WHEEL);
@@ -112,6 +113,7 @@ static void frames(struct car *car)
     CHECK(drive(car, 0.5f, VEHICLE_NOTHING, driven) == VEHICLE_ACCEPTED);
     CHECK(are(driven, -12, 0, 5));
     CHECK(read_wheel(car, 0, tyre) == VEHICLE_ACCEPTED && are(tyre, 1, -0.5f, 1) && tyre[9] == 1);
+    CHECK(are(tyre + VEHICLE_READ_SETTLED, 1, -1, 1));
 }
 
 /* Each refusal leaves the car and the results as they were, bit for bit. */

@@ -35,7 +35,8 @@ extern "C" {
 #define VEHICLE_BODY_LEN 16     /* one ground body */
 #define VEHICLE_RAY_LEN 7       /* one ray answer */
 #define VEHICLE_DRIVE_LEN 7     /* what vehicle_drive gives */
-#define VEHICLE_READ_LEN 15     /* what vehicle_read_wheel gives */
+#define VEHICLE_READ_LEN 18     /* what vehicle_read_wheel gives */
+#define VEHICLE_READ_SETTLED 15 /* where in it the settled centre begins */
 #define VEHICLE_MOST_WHEELS 16
 #define VEHICLE_MOST_BODIES 64
 
@@ -115,8 +116,11 @@ uint32_t vehicle_drive(float *table, size_t table_len, uint32_t *whole, size_t w
 #define VEHICLE_HIT_UP 2  /* a hit that also has the normal of the upward cast */
 
 /* Reads one wheel of a vehicle that was driven. It changes nothing but the results.
- * results, VEHICLE_READ_LEN: centre (3), where the tyre is drawn; direction (3) and axle (3) in the world; suspension length; suspension force;
- * forward impulse; side impulse; skid, below 1 if the tyre slides; rotation.
+ * results, VEHICLE_READ_LEN: centre (3); direction (3) and axle (3) in the world; suspension length; suspension force; forward impulse; side
+ * impulse; skid, below 1 if the tyre slides; rotation; settled centre (3).
+ * Draw the tyre at the settled centre, results + VEHICLE_READ_SETTLED: the hard point plus the direction times the length that this drive
+ * gave. The first centre is the Rust source's, which has the length of the drive before: drawn, it is a frame late. It is there to be
+ * compared with the source's numbers. The settled one is always finite, and has no other bound.
  * Refuses, the first that holds: 1; 4; 5; 2. */
 uint32_t vehicle_read_wheel(const float *table, size_t table_len, const uint32_t *whole, size_t whole_len, uint32_t wheel, float *results, size_t results_len);
 

@@ -45,7 +45,7 @@ use Rattle.demands.specs.Held.{Held, handsHeld, HandsHeld}
 use Rattle.demands.specs.Update.{Placed, updateOf, updated}
 use Rattle.demands.specs.Impulses.{Step, stepAfter, Accepted, Stepped, Grounded, storedWheel, drivenWheel, forwardDemand, sideDemand, gripLimit, forwardImpulse, sideImpulse, skidAt, brakeOf, slidesAt, poweredAt, Alike}
 use Rattle.demands.specs.MoreBrake.{AlikeButForBrake}
-use Rattle.demands.specs.Settled.{readAfterDrive, driveLength, withLength, centreUnder}
+use Rattle.demands.specs.Settled.{readAfterDrive, driveLength, withLength, centreUnder, isFinite}
 use Rattle.demands.proofs.Marks.{history-from-set-up}
 use Rattle.demands.proofs.Five.{five-of-not-driven, not-five-of-driven}
 use Rattle.demands.proofs.Numbers.{number-among}
@@ -54,7 +54,8 @@ use Rattle.demands.proofs.Updates.{driven-is, aimed-is, update-speed, u
 use Rattle.demands.proofs.Each.{each-of-held, held-of-each}
 use Rattle.demands.proofs.HeldCalls.{call-held, held-from-set-up}
 use Rattle.demands.proofs.Impulses.{tests, forward-rescaled, side-rescaled, forward-admitted, side-admitted, limit-admitted, within-brake, friction-alike}
-use Rattle.demands.proofs.Settled.{driven-settled, driven-place, read-after-drive, settled-of-placed, next-centre}
+use Rattle.demands.proofs.Settled.{driven-settled, driven-place, read-done, read-after-drive, settled-of-placed, next-centre}
+use Rattle.demands.proofs.Finite.{settled-finite}
 use Rattle.demands.proofs.MoreBrake.{demand-no-less, demand-equal, demand-same}
 
 -- ---- Demand 1. "A bad call is answered by a number of document 01": the number that a call answers is that of its refusal list, 0 where no test of the list fails.
@@ -226,7 +227,12 @@ module _ (f : Format) (d : Step) (i : ℕ) (accepted : Accepted f d) (counted : 
   unfolding readingOf
   centre-after-drive = ap (λ (x : Reading). x .centre) driven-is-read ∙ ap (λ (x : Place). x .centre) (driven-place f d i accepted counted)
 
--- The same of a drive in a table our calls wrote. Over every history, as above.
+-- It is not stored, and no refusal looks at it: it needs none, since no accepted read gives a NaN or an infinity there.
+pub settled-is-finite : (f : Format) (t : List Float) (m : List ℕ) (i : ℕ) → Held f t → refuseRead t m i ≡ 0 → isFinite (readWheel f t m i .reply .settled) ≡ true
+unfolding readingOf
+settled-is-finite f t m i h z = ap (λ (x : After Reading). isFinite (x .reply .settled)) (read-done f t m i z) ∙ settled-finite f t m i h z
+
+-- The two centres after a drive in a table our calls wrote. Over every history, as above.
 module _ (f : Format) (lent : State) (up forward : ℕ) (l : List Call) (set-up : accepted f (SetUp up forward) lent ≡ true) (r : Frame) (n i : ℕ) where
   -- the drive, the pose of the chassis that it works on, and wheel i as it finds it
   abbrev pub drive : Step

@@ -9,6 +9,7 @@ pub mod Passed
 pub mod Impulses
 pub mod MoreBrake
 pub mod Settled
+pub mod Finite
 pub mod Numbers
 pub mod Each
 pub mod HeldWheel

@@ -1,4 +1,4 @@
--- The two centres that a read gives after an accepted drive. In order: what a cast keeps, and the length that it gives; rule 1's centre; when a read is accepted; the centre after an aim; a wheel of an accepted drive, and that
+-- The two centres that a read gives after an accepted drive. In order: what a cast keeps, and the length that it gives; rule 1's centre; when a read is accepted, and what it is then; the centre after an aim; a wheel of an accepted drive, and that
 -- it can be read; the same where its transforms are those of the kept chassis, and the aim after it. Assumes nothing.
 use Prim.Native.Nat.{ℕ, _≤_, _<_}
 use mathlib.Core.Bool.{true}
@@ -74,6 +74,10 @@ read-accepted : (t : List Float) (m : List ℕ) (i : ℕ) → Shape t m → i < 
 unfolding refuseRead firstFailed pick
 read-accepted t m i shape used mark within = rw (shape-ok t m shape, lt-ltb i (countOf m) used, eq-eqb (markOf m) at.DRIVEN mark, within)
 
+pub read-done : (f : Format) (t : List Float) (m : List ℕ) (i : ℕ) → refuseRead t m i ≡ 0 → readWheel f t m i ≡ after (readingOf f (wheelAt t i)) t m
+unfolding readWheel
+read-done f t m i z = sym (settled-done _ _ notRead _ _ t m refl z refl)
+
 -- ---- rule 1's centre of a used wheel, after an accepted aim
 aimed-centre : (f : Format) (c : Chassis) (t : List Float) (m : List ℕ) (i : ℕ) → refuseAim f t m c ≡ 0 → i < countOf m → wheelAt (aimOf f t m c .table) i .place .centre ≡ centreUnder f (c .pose) (wheelAt t i)
 unfolding aimedTable transforms transformAt
@@ -114,8 +118,7 @@ module _ (f : Format) (d : Step) (i : ℕ) (accepted : Accepted f d) (counted : 
       (rw (count, ← a .each) (tests f d accepted .step .storable))
 
   pub read-after-drive : readAfterDrive f d i ≡ after (readingOf f (drivenWheel f d i)) (driveOf f (d .table) (d .whole) (d .frame) (d .n) .table) (driveOf f (d .table) (d .whole) (d .frame) (d .n) .whole)
-  unfolding readWheel
-  read-after-drive = rw (driven-is f (d .table) (d .whole) (d .frame) (d .n) accepted) (sym (settled-done _ _ notRead _ _ _ _ refl read-passed refl))
+  read-after-drive = rw (driven-is f (d .table) (d .whole) (d .frame) (d .n) accepted) (read-done f _ _ i read-passed)
 
   -- ---- its transforms are those of the kept chassis, as in every table that our calls wrote
   module _ (placed : Placed f (d .table) i) where

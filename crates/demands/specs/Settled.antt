@@ -1,6 +1,8 @@
 -- Change request 2026-02, "Tyres are drawn a frame late": the two centres that a read gives after a drive. Definitions only.
 use Prim.Native.Nat.{ℕ}
+use mathlib.Core.Bool.{Bool, _&&_}
 use lib.Ieee.{Float, Format}
+use lib.Ieee.Scale.{finite}
 use Rattle.vector.specs.declared.Vector.{Vector}
 use Rattle.vector.specs.declared.Pose.{Pose}
 use Rattle.tyre.specs.Suspension.{suspensionLength}
@@ -38,3 +40,7 @@ withLength w length = withInfo w (record { normal = w .info .normal; point = w .
 -- rule 1's centre of a wheel under a pose, at the length that the wheel stores
 abbrev pub centreUnder : Format → Pose → Wheel → Vector
 centreUnder f pose w = updateWheelTransform f pose w .place .centre
+
+-- each part is a number, neither a NaN nor an infinity
+unfoldable pub isFinite : Vector → Bool
+isFinite v = finite (v .x) && (finite (v .y) && finite (v .z))

@@ -15,14 +15,14 @@ use Rattle.refusals.specs.Normals.{normalsOk}
 use Rattle.refusals.specs.After.{after, marked}
 use Rattle.passes.specs.Passes.{stored}
 use Rattle.passes.specs.Step.{wholeStep}
-use Rattle.read_wheel.specs.Read.{readingOf}
+use Rattle.read_wheel.specs.Read.{refuseRead, readingOf, readWheel}
 use Rattle.aim.specs.Aim.{aimOf, refuseAim, aimedBy, aimedTable}
 use Rattle.drive.specs.Drive.{driveOf, drivenBy}
 use Rattle.demands.specs.History.{State, SetUp, Drive, ReadWheel, accepted, run, drivenSince, readAfter}
 use Rattle.demands.specs.Held.{Held, handsHeld, HandsHeld}
 use Rattle.demands.specs.Update.{Placed, updateOf, updated}
 use Rattle.demands.specs.Impulses.{Step, Accepted, Stepped, stepAfter, drivenWheel, forwardDemand, sideDemand, forwardImpulse, sideImpulse, skidAt}
-use Rattle.demands.specs.Settled.{readAfterDrive, withLength, centreUnder}
+use Rattle.demands.specs.Settled.{readAfterDrive, withLength, centreUnder, isFinite}
 use Rattle.demands.proofs.Demands as demands
 use Rattle.witnesses.specs.Car.{minus-two, minus-four, five-halves, vector, front, pressed, rolling, road, stretched}
 use Rattle.witnesses.specs.Calls.{lent, fitted, aimed, otherDriven, otherCalls, leftBy, raised, placed, theDrive, otherDrive}
@@ -187,3 +187,11 @@ witness-call-keeps-held = demands.call-keeps-held binary32 (Drive road 3) (leftB
 
 pub witness-history-is-stepped : Stepped binary32 aimedDriven 0
 witness-history-is-stepped = demands.history-is-stepped binary32 lent 1 0 aimed set-up-accepted hands-held road 3 0 then-driven-accepted (lit< tt)
+
+-- ---- and so the front wheel settles at a place that is finite
+then-read : refuseRead (driven .table) (driven .whole) 0 ≡ 0
+unfolding opened
+then-read = refl
+
+pub witness-settled-is-finite : isFinite (readWheel binary32 (driven .table) (driven .whole) 0 .reply .settled) ≡ true
+witness-settled-is-finite = demands.settled-is-finite binary32 (driven .table) (driven .whole) 0 witness-call-keeps-held then-read

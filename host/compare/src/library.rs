@@ -45,9 +45,12 @@ impl Lent {
                     &mut results,
                 )
             }
-            Code::Read(wheel) => ffi::read_wheel(table, whole, *wheel, &mut results),
+            Code::Read(wheel) | Code::ReadSettled(wheel) => {
+                ffi::read_wheel(table, whole, *wheel, &mut results)
+            }
         };
         if number == 0 {
+            results.truncate(printed(code));
             return Ok((0, results));
         }
         let untouched = results.iter().all(|number| number.to_bits() == UNTOUCHED.to_bits());
@@ -66,8 +69,16 @@ fn result_size(code: &Code) -> usize {
     match code {
         Code::Aim(_) => len::AIM,
         Code::Drive(_) => len::DRIVE,
-        Code::Read(_) => len::READ,
+        Code::Read(_) | Code::ReadSettled(_) => len::READ,
         _ => 0,
+    }
+}
+
+/// How many of the results the code has in the stream: code 5 leaves the settled centre out.
+fn printed(code: &Code) -> usize {
+    match code {
+        Code::Read(_) => len::READ - 3,
+        _ => result_size(code),
     }
 }
 

@@ -140,6 +140,7 @@ pub fn name(code: &Code) -> &'static str {
         Code::Aim(_) => "aim",
         Code::Drive(_) => "drive",
         Code::Read(_) => "read",
+        Code::ReadSettled(_) => "read settled",
     }
 }
 

@@ -37,7 +37,7 @@ impl Tally {
 impl fmt::Display for Tally {
     fn fmt(&self, f: &mut fmt::Formatter<'_>) -> fmt::Result {
         for ((call, number), times) in &self.answers {
-            writeln!(f, "{call:>9} {number:>2}: {times}")?;
+            writeln!(f, "{call:>12} {number:>2}: {times}")?;
         }
         let Tally { airborne, gripping, sliding, .. } = self;
         writeln!(f, "wheels of accepted drives: {sliding} sliding, {gripping} gripping, {airborne} airborne")

@@ -17,7 +17,7 @@ pub mod len {
     pub const RAY: usize = 7;
     pub const AIM: usize = 97;
     pub const DRIVE: usize = 7;
-    pub const READ: usize = 15;
+    pub const READ: usize = 18;
     /// The most wheels of a vehicle, and the most ground bodies of a drive.
     pub const WHEELS: usize = 16;
     pub const BODIES: usize = 64;

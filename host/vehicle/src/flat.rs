@@ -138,5 +138,6 @@ pub fn reading(results: &[f32; len::READ]) -> Reading {
         side: results[12],
         skid: results[13],
         rotation: results[14],
+        settled: vector(results, 15),
     }
 }

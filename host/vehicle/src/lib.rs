@@ -36,7 +36,7 @@
 //! let aimed = vehicle.aim(&chassis)?;
 //! let answers: Vec<RayAnswer> = aimed.sights().iter().map(cast).collect();
 //! let driven = aimed.drive(1.0 / 24.0, &[], &answers)?;
-//! draw(driven.read(wheel)?.centre);
+//! draw(driven.read(wheel)?.settled);
 //! let velocity = driven.velocity();
 //! # Ok::<(), Refusal>(())
 //! ```
@@ -193,7 +193,7 @@ impl Driven<'_> {
         self.velocity
     }
 
-    /// One wheel after the drive.
+    /// One wheel after the drive. Its tyre is drawn at [`Reading::settled`].
     pub fn read(&self, wheel: u32) -> Result<Reading, Refusal> {
         self.vehicle.read_wheel(wheel)
     }

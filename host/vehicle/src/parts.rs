@@ -211,7 +211,7 @@ pub struct Velocity {
 /// One wheel after a drive.
 #[derive(Clone, Copy, Debug, PartialEq)]
 pub struct Reading {
-    /// Where the tyre is drawn.
+    /// The Rust source's centre, at the length of the drive before: to be compared with it. Drawn, it is a frame late.
     pub centre: Vector,
     /// The suspension's direction in world space.
     pub direction: Vector,
@@ -229,4 +229,6 @@ pub struct Reading {
     pub skid: f32,
     /// The wheel's turn about its axle, in radians.
     pub rotation: f32,
+    /// The settled centre, where the tyre is drawn: at this drive's length.
+    pub settled: Vector,
 }

@@ -55,6 +55,8 @@ fn a_frame_on_the_ground() -> Result<(), Refusal> {
         Velocity { linear: Vector::new(12.0, 8.0, 2.375), angular: Vector::ZERO, wake: true };
     assert_eq!(driven.velocity(), expected);
     let tyre = driven.read(0)?;
+    // The settled centre is at this drive's length, the old one at the length 0 of a new wheel.
+    assert_eq!(tyre.settled, Vector::new(1.0, -0.5, 1.0));
     assert_eq!(tyre.centre, Vector::new(1.0, 0.0, 1.0));
     assert_eq!((tyre.length, tyre.force), (0.5, 16.0));
     assert_eq!((tyre.forward, tyre.side, tyre.skid, tyre.rotation), (3.0, -2.0, 0.5, 6.0));
@@ -72,8 +74,9 @@ fn a_frame_in_the_air_after_it() -> Result<(), Refusal> {
     let driven = aimed.drive(0.5, &[], &[RayAnswer::Nothing; 4])?;
     assert_eq!(driven.velocity().linear, Vector::new(-12.0, 0.0, 5.0));
     let tyre = driven.read(0)?;
-    // The centre has the length of the drive before; the wheel spins on.
+    // The old centre has the length of the drive before; the wheel spins on.
     assert_eq!((tyre.centre, tyre.length), (Vector::new(1.0, -0.5, 1.0), 1.0));
+    assert_eq!(tyre.settled, Vector::new(1.0, -1.0, 1.0));
     assert_eq!(tyre.rotation, 6.0 + 6.0 * 0.99);
     Ok(())
 }
