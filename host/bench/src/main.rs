@@ -77,7 +77,11 @@ fn whole() {
         );
         row("aim; source: transforms and speed", wheels, aim(wheels));
         row("set up and add each wheel; source: `new`, `add_wheel` each", wheels, add(wheels));
-        row("read one wheel; source: its fields copied, with the settled centre", wheels, read(wheels));
+        row(
+            "read one wheel; source: its fields copied, with the settled centre",
+            wheels,
+            read(wheels),
+        );
     }
     println!("\nMemory, in bytes\n");
     let table = std::mem::size_of::<[f32; vehicle_controller::ffi::len::TABLE]>();

@@ -113,7 +113,8 @@ fn one_whole_changed(random: &mut Random, tokens: &[Token]) -> Vec<u8> {
     let wholes: Vec<usize> =
         (0..tokens.len()).filter(|place| matches!(tokens[*place], Token::Whole(_))).collect();
     let mut tokens = tokens.to_vec();
-    let value = random.pick(&[0, 1, 2, 3, 4, 5, 6, 7, 8, 9, 16, 17, 64, 65, 127, 128, 300, u32::MAX]);
+    let value =
+        random.pick(&[0, 1, 2, 3, 4, 5, 6, 7, 8, 9, 16, 17, 64, 65, 127, 128, 300, u32::MAX]);
     tokens[random.pick(&wholes)] = Token::Whole(value);
     bytes_of(&tokens)
 }

@@ -113,10 +113,7 @@ fn standing() -> Chassis {
     let height = REST - sag + RADIUS - CONNECTION;
     let inverse = 1.0 / MASS;
     settled(Chassis {
-        pose: Pose {
-            rotation: Rotation::IDENTITY,
-            translation: Vector::new(0.0, height, 0.0),
-        },
+        pose: Pose { rotation: Rotation::IDENTITY, translation: Vector::new(0.0, height, 0.0) },
         center_of_mass: Vector::ZERO,
         linear: Vector::new(12.0, 0.0, 0.0),
         angular: Vector::ZERO,

@@ -111,6 +111,7 @@ fn a_short_scenario() {
         Code::Aim(bench::chassis()),
         Code::Drive(drive),
         Code::Read(0),
+        Code::ReadSettled(0),
         Code::End,
     ];
     let tokens: Vec<_> = codes.iter().flat_map(Code::tokens).collect();
@@ -120,10 +121,12 @@ fn a_short_scenario() {
     let aimed = format!("3 0{}{zero} c0000000{zero}", zero.repeat(4));
     let driven = format!("4 0{zero} 40a00000{}", zero.repeat(5));
     // Centre, direction −y, axle z, length 0, force 5, no impulses, skid 1, rotation 0.
-    let mut read = format!("5 0{}{zero} bf800000{zero}{}{one}", zero.repeat(3), zero.repeat(2));
+    let mut read = format!("{}{zero} bf800000{zero}{}{one}", zero.repeat(3), zero.repeat(2));
     read += &format!("{zero} 40a00000{}{one}{zero}", zero.repeat(2));
+    // With length 0 the wheel settles at its hard point.
+    let reads = format!("5 0{read}\n8 0{read}{}", zero.repeat(3));
     let text = printed(&bytes_of(&tokens)).replace("80000000", "00000000");
-    assert_eq!(text, format!("vehicle 1\n1 0\n{aimed}\n{driven}\n{read}\n0 0\n"));
+    assert_eq!(text, format!("vehicle 1\n1 0\n{aimed}\n{driven}\n{reads}\n0 0\n"));
 }
 
 #[test]

@@ -7,7 +7,7 @@ use vehicle::handed::{Chassis, Controls, Drive, GroundBody, Hit, NewWheel};
 use vehicle::math::{Pose, Rotation, Vector};
 use vehicle::row::{self, Row};
 use vehicle::step::{run_as_sent, Step};
-use vehicle::table::{Table, ACCEPTED, MARK_AIMED};
+use vehicle::table::{Table, ACCEPTED, BAD_RESULT, MARK_AIMED};
 
 #[test]
 fn an_aim_works_out_the_transforms() {
@@ -43,6 +43,28 @@ fn the_centre_uses_the_length_of_the_drive_before() {
     assert_eq!(table.read_wheel(0).settled, Vector::new(0.0, -0.5, 0.0));
     table.aim(&chassis());
     assert_eq!(table.row(0).vector(row::CENTER), Vector::new(0.0, -0.5, 0.0));
+}
+
+/// It is not stored: 2^40 + 2^20 is given, and only the aim that would store it is refused.
+#[test]
+fn the_settled_centre_meets_no_bound() {
+    let most = 1_048_576.0;
+    let mut table = Table::new();
+    table.add_wheel(&NewWheel {
+        connection_point: Vector::new(0.0, most, 0.0),
+        direction: Vector::new(0.0, -most, 0.0),
+        rest_length: 0.0,
+        radius: most,
+        travel: most,
+        ..wheel()
+    });
+    table.aim(&chassis());
+    let driven = table.drive(&drive(&[Hit { time: 0.0, ..hit() }]));
+    assert_eq!(driven.answer, ACCEPTED);
+    let read = table.read_wheel(0);
+    assert_eq!((read.answer, read.suspension_length), (ACCEPTED, -most));
+    assert_eq!(read.settled, Vector::new(0.0, most * most + most, 0.0));
+    assert_eq!(table.aim(&chassis()).answer, BAD_RESULT);
 }
 
 #[test]
