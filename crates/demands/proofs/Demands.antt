@@ -45,7 +45,7 @@ use Rattle.demands.specs.Held.{Held, handsHeld, HandsHeld}
 use Rattle.demands.specs.Update.{Placed, updateOf, updated}
 use Rattle.demands.specs.Impulses.{Step, stepAfter, Accepted, Stepped, Grounded, storedWheel, drivenWheel, forwardDemand, sideDemand, gripLimit, forwardImpulse, sideImpulse, skidAt, brakeOf, slidesAt, poweredAt, Alike}
 use Rattle.demands.specs.MoreBrake.{AlikeButForBrake}
-use Rattle.demands.specs.Settled.{readAfterDrive, driveLength, withLength, centreUnder, isFinite}
+use Rattle.demands.specs.Settled.{afterDrive, readAfterDrive, quiet, driveLength, withLength, centreUnder, isFinite}
 use Rattle.demands.proofs.Marks.{history-from-set-up}
 use Rattle.demands.proofs.Five.{five-of-not-driven, not-five-of-driven}
 use Rattle.demands.proofs.Numbers.{number-among}
@@ -54,7 +54,8 @@ use Rattle.demands.proofs.Updates.{driven-is, aimed-is, update-speed, u
 use Rattle.demands.proofs.Each.{each-of-held, held-of-each}
 use Rattle.demands.proofs.HeldCalls.{call-held, held-from-set-up}
 use Rattle.demands.proofs.Impulses.{tests, forward-rescaled, side-rescaled, forward-admitted, side-admitted, limit-admitted, within-brake, friction-alike}
-use Rattle.demands.proofs.Settled.{driven-settled, driven-place, read-done, read-after-drive, settled-of-placed, next-centre}
+use Rattle.demands.proofs.Settled.{driven-settled, driven-place, read-done, read-after-drive, shape-after-drive, settled-of-placed, next-centre}
+use Rattle.demands.proofs.Quiet.{quiet-stays}
 use Rattle.demands.proofs.Finite.{settled-finite}
 use Rattle.demands.proofs.MoreBrake.{demand-no-less, demand-equal, demand-same}
 
@@ -213,19 +214,30 @@ module _ (f : Format) (lent : State) (up forward : ℕ) (l : List Call) (set-up 
 
 -- ---- Change request 2026-02, "Tyres are drawn a frame late." "Reading now also gives a settled centre, hard point plus direction times this drive's length, and we draw that. The old centre stays, and demand 2 speaks
 -- of it; the settled one has its own definition." `d` is an accepted drive from any stored state, i the number of one of its wheels.
-module _ (f : Format) (d : Step) (i : ℕ) (accepted : Accepted f d) (counted : i < d .n) where
+module _ (f : Format) (d : Step) (i : ℕ) (passed : Accepted f d) (counted : i < d .n) where
   -- each wheel can be read straight after it, and the read is that of the wheel as the drive left it
   pub driven-is-read : readAfterDrive f d i .reply ≡ readingOf f (drivenWheel f d i)
-  driven-is-read = ap (λ (x : After Reading). x .reply) (read-after-drive f d i accepted counted)
+  driven-is-read = ap (λ (x : After Reading). x .reply) (read-after-drive f d i passed counted)
 
   -- the settled centre has the length that rule 4 or 5 gave in this drive; the old one is as the drive found it
   pub settled-after-drive : readAfterDrive f d i .reply .settled ≡ centreOf f (storedWheel d i .info .hard) (storedWheel d i .place .direction) (driveLength f d i)
   unfolding readingOf
-  settled-after-drive = ap (λ (x : Reading). x .settled) driven-is-read ∙ driven-settled f d i accepted counted
+  settled-after-drive = ap (λ (x : Reading). x .settled) driven-is-read ∙ driven-settled f d i passed counted
 
   pub centre-after-drive : readAfterDrive f d i .reply .centre ≡ storedWheel d i .place .centre
   unfolding readingOf
-  centre-after-drive = ap (λ (x : Reading). x .centre) driven-is-read ∙ ap (λ (x : Place). x .centre) (driven-place f d i accepted counted)
+  centre-after-drive = ap (λ (x : Reading). x .centre) driven-is-read ∙ ap (λ (x : Place). x .centre) (driven-place f d i passed counted)
+
+  -- every accepted read from then on gives that settled centre, until the next accepted set-up, add, aim or drive
+  pub settled-until-next : (l : List Call) → quiet f l (afterDrive f d) ≡ true → accepted f (ReadWheel i) (runAll f l (afterDrive f d)) ≡ true
+      → readWheel f (runAll f l (afterDrive f d) .table) (runAll f l (afterDrive f d) .whole) i .reply .settled ≡ readAfterDrive f d i .reply .settled
+  unfolding accepted answered readingOf
+  settled-until-next l q h =
+      let now = runAll f l (afterDrive f d) in
+      let z : refuseRead (now .table) (now .whole) i ≡ 0 = sym (read-number f (now .table) (now .whole) i) ∙ eqb-true _ 0 h in
+      ap (λ (x : After Reading). x .reply .settled) (read-done f (now .table) (now .whole) i z)
+      ∙ quiet-stays f l (afterDrive f d) i (shape-after-drive f d i passed counted) q
+      ∙ sym (ap (λ (x : Reading). x .settled) driven-is-read)
 
 -- It is not stored, and no refusal looks at it: it needs none, since no accepted read gives a NaN or an infinity there.
 pub settled-is-finite : (f : Format) (t : List Float) (m : List ℕ) (i : ℕ) → Held f t → refuseRead t m i ≡ 0 → isFinite (readWheel f t m i .reply .settled) ≡ true
@@ -260,8 +272,8 @@ module _ (f : Format) (lent : State) (up forward : ℕ) (l : List Call) (set-up 
     centre-is-rule-1 = centre-after-drive f drive i passed counted ∙ ap (λ (w : Wheel). w .place .centre) placed
 
     -- "a frame late": where the chassis stands still, the next aim puts the old centre where the settled one is now
-    pub settled-is-next-centre : (c : Chassis) → c .pose ≡ pose → let after-drive = driveOf f (drive .table) (drive .whole) r n in
-        refuseAim f (after-drive .table) (after-drive .whole) c ≡ 0 → wheelAt (aimOf f (after-drive .table) (after-drive .whole) c .table) i .place .centre ≡ readAfterDrive f drive i .reply .settled
+    pub settled-is-next-centre : (c : Chassis) → c .pose ≡ pose → refuseAim f (afterDrive f drive .table) (afterDrive f drive .whole) c ≡ 0
+        → wheelAt (aimOf f (afterDrive f drive .table) (afterDrive f drive .whole) c .table) i .place .centre ≡ readAfterDrive f drive i .reply .settled
     unfolding readingOf
     settled-is-next-centre c same p = next-centre f drive i passed counted placed c same p ∙ sym (ap (λ (x : Reading). x .settled) (driven-is-read f drive i passed counted))
 

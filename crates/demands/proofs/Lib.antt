@@ -10,6 +10,7 @@ pub mod Impulses
 pub mod MoreBrake
 pub mod Settled
 pub mod Finite
+pub mod Quiet
 pub mod Numbers
 pub mod Each
 pub mod HeldWheel

@@ -43,6 +43,16 @@ pub record Left (makes takes : Bool) (m : List ℕ) (x : After ℕ) : Type 0 whe
   pub shape : Shape (x .table) (x .whole)
   pub mark : isDriven (x .whole) ≡ (makes && eqb (x .reply) 0) || (isDriven m && not (takes && eqb (x .reply) 0))
 
+-- ---- what holds of the table and the whole numbers before a call, and after it where it is accepted, holds after it
+pub settled-has : {R : Type 0} (P : List Float → List ℕ → Type 0) (number : ℕ) (refused : ℕ → R) (done : After R) (t : List Float) (m : List ℕ) → P t m → (number ≡ 0 → P (done .table) (done .whole))
+    → P (settled number refused done t m .table) (settled number refused done t m .whole)
+unfolding settled pick
+settled-has P number refused done t m h k = either (eqb number 0) refl
+  where
+    either : (b : Bool) → eqb number 0 ≡ b → P (pick b done (after (refused number) t m) .table) (pick b done (after (refused number) t m) .whole)
+    either true e = k (eqb-true number 0 e)
+    either false e = h
+
 -- ---- one call, whose number is `of` its reply
 module _ {R : Type 0} (of : R → ℕ) (makes takes : Bool) (number : ℕ) (refused : ℕ → R) (done : After R) (t : List Float) (m : List ℕ) where
   pub left-of-settled : of (refused number) ≡ number → of (done .reply) ≡ 0 → Shape t m → (number ≡ 0 → Shape (done .table) (done .whole))

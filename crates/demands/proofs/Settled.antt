@@ -42,7 +42,7 @@ use Rattle.drive.specs.declared.Driven.{Driven}
 use Rattle.drive.specs.Drive.{driveOf}
 use Rattle.demands.specs.Update.{Placed}
 use Rattle.demands.specs.Impulses.{Step, Accepted, storedWheel, drivenWheel}
-use Rattle.demands.specs.Settled.{readAfterDrive, lengthBy, driveLength, withLength, centreUnder}
+use Rattle.demands.specs.Settled.{afterDrive, readAfterDrive, lengthBy, driveLength, withLength, centreUnder}
 use Rattle.demands.proofs.Shapes.{shape-ok, shape-other-table, shape-marked, mark-marked, count-marked}
 use Rattle.demands.proofs.Sizes.{length-whole-step}
 use Rattle.demands.proofs.Updates.{driven-is, aimed-is}
@@ -108,17 +108,22 @@ module _ (f : Format) (d : Step) (i : ℕ) (accepted : Accepted f d) (counted : 
   driven-place = ap (λ (x : Wheel). x .place) driven-of-cast ∙ cast-of f (chassisAt (d .table) .body) (d .frame .answer i) w .1 .0
 
   -- every test of a read lets it through
+  stepped-shape : Shape (wholeStep f stored (upOf (d .whole)) (d .frame) (d .n) (d .table) .table) (marked (d .whole) at.DRIVEN)
+  stepped-shape =
+      let a = tests f d accepted .early .frame in
+      shape-marked (shape-other-table (a .shape) _ (length-whole-step f stored (d .table) _ (d .frame) (d .n) (a .shape .sized) (room f d accepted))) at.DRIVEN (omega arith)
+
   read-passed : refuseRead (wholeStep f stored (upOf (d .whole)) (d .frame) (d .n) (d .table) .table) (marked (d .whole) at.DRIVEN) i ≡ 0
   read-passed =
       let a = tests f d accepted .early .frame in
-      let four = a .shape .four in
-      let count = count-marked (d .whole) four at.DRIVEN in
-      let shape : Shape (wholeStep f stored (upOf (d .whole)) (d .frame) (d .n) (d .table) .table) (d .whole) = shape-other-table (a .shape) _ (length-whole-step f stored (d .table) _ (d .frame) (d .n) (a .shape .sized) (room f d accepted)) in
-      read-accepted _ _ i (shape-marked shape at.DRIVEN (omega arith)) (let e = a .each in rw count (omega arith)) (mark-marked (d .whole) four at.DRIVEN)
-      (rw (count, ← a .each) (tests f d accepted .step .storable))
+      let count = count-marked (d .whole) (a .shape .four) at.DRIVEN in
+      read-accepted _ _ i stepped-shape (let e = a .each in rw count (omega arith)) (mark-marked (d .whole) (a .shape .four) at.DRIVEN) (rw (count, ← a .each) (tests f d accepted .step .storable))
 
   pub read-after-drive : readAfterDrive f d i ≡ after (readingOf f (drivenWheel f d i)) (driveOf f (d .table) (d .whole) (d .frame) (d .n) .table) (driveOf f (d .table) (d .whole) (d .frame) (d .n) .whole)
   read-after-drive = rw (driven-is f (d .table) (d .whole) (d .frame) (d .n) accepted) (read-done f _ _ i read-passed)
+
+  pub shape-after-drive : Shape (afterDrive f d .table) (afterDrive f d .whole)
+  shape-after-drive = rw (driven-is f (d .table) (d .whole) (d .frame) (d .n) accepted) stepped-shape
 
   -- ---- its transforms are those of the kept chassis, as in every table that our calls wrote
   module _ (placed : Placed f (d .table) i) where
@@ -135,8 +140,8 @@ module _ (f : Format) (d : Step) (i : ℕ) (accepted : Accepted f d) (counted : 
         ∙ ap (λ (x : Float). centreUnder f (chassisAt (d .table) .pose) (withLength w x)) length
         ∙ sym settled-of-placed
 
-    pub next-centre : (c : Chassis) → c .pose ≡ chassisAt (d .table) .pose → let after-drive = driveOf f (d .table) (d .whole) (d .frame) (d .n) in
-        refuseAim f (after-drive .table) (after-drive .whole) c ≡ 0 → wheelAt (aimOf f (after-drive .table) (after-drive .whole) c .table) i .place .centre ≡ settledCentre f (drivenWheel f d i)
+    pub next-centre : (c : Chassis) → c .pose ≡ chassisAt (d .table) .pose → refuseAim f (afterDrive f d .table) (afterDrive f d .whole) c ≡ 0
+        → wheelAt (aimOf f (afterDrive f d .table) (afterDrive f d .whole) c .table) i .place .centre ≡ settledCentre f (drivenWheel f d i)
     next-centre c same p =
         let a = tests f d accepted .early .frame in
         let count = count-marked (d .whole) (a .shape .four) at.DRIVEN in

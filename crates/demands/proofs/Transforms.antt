@@ -36,7 +36,7 @@ use Rattle.drive.specs.Drive.{driveUnder, driveOf}
 use Rattle.demands.specs.History.{State, Call, SetUp, AddWheel, SetControls, Aim, Drive, ReadWheel, answered, accepted, run, runAll}
 use Rattle.demands.specs.Update.{Placed}
 use Rattle.demands.proofs.Shapes.{mark-marked, count-marked}
-use Rattle.demands.proofs.Marks.{fresh, set-up-shape, set-up-leaves, left-by}
+use Rattle.demands.proofs.Marks.{settled-has, fresh, set-up-shape, set-up-leaves, left-by}
 
 -- ---- rule 1 of a wheel that has had it
 transform-twice : (f : Format) (pose : Pose) (w : Wheel) → updateWheelTransform f pose (updateWheelTransform f pose w) ≡ updateWheelTransform f pose w
@@ -110,16 +110,6 @@ PlacedIfAimed f t m = markOf m ≡ at.AIMED → AllPlaced f t (countOf m)
 not-aimed : (f : Format) (t : List Float) (m : List ℕ) (mark : ℕ) → markOf m ≡ mark → (mark ≡ at.AIMED → ⊥) → PlacedIfAimed f t m
 not-aimed f t m mark e ne h = absurd (ne (sym e ∙ h))
 
--- one call that ends by `settled`
-settled-placed : (f : Format) {R : Type 0} (number : ℕ) (refused : ℕ → R) (done : After R) (t : List Float) (m : List ℕ) → PlacedIfAimed f t m → (number ≡ 0 → PlacedIfAimed f (done .table) (done .whole))
-    → PlacedIfAimed f (settled number refused done t m .table) (settled number refused done t m .whole)
-unfolding settled pick
-settled-placed f number refused done t m h k = either (eqb number 0) refl
-  where
-    either : (b : Bool) → eqb number 0 ≡ b → PlacedIfAimed f (pick b done (after (refused number) t m) .table) (pick b done (after (refused number) t m) .whole)
-    either true e = k (eqb-true number 0 e)
-    either false e = h
-
 unaimed-placed : (f : Format) (t : List Float) (m : List ℕ) → length m ≡ at.WHOLE → PlacedIfAimed f t (unaimed m)
 unfolding unaimed pick
 unaimed-placed f t m four = either (eqb (markOf m) at.AIMED) refl
@@ -131,15 +121,15 @@ unaimed-placed f t m four = either (eqb (markOf m) at.AIMED) refl
 -- ---- each call
 placed-by : (f : Format) (c : Call) (s : State) → Shape (s .table) (s .whole) → PlacedIfAimed f (s .table) (s .whole) → PlacedIfAimed f (run f c s .table) (run f c s .whole)
 unfolding run answered setUp addWheel setControls aimOf driveOf driveUnder readWheel
-placed-by f (SetUp up forward) s shape h = settled-placed f _ _ _ (s .table) (s .whole) h (λ z. not-aimed f (fresh up forward .table) (fresh up forward .whole) at.NEW refl (λ k. omega arith))
+placed-by f (SetUp up forward) s shape h = settled-has (PlacedIfAimed f) _ _ _ (s .table) (s .whole) h (λ z. not-aimed f (fresh up forward .table) (fresh up forward .whole) at.NEW refl (λ k. omega arith))
 placed-by f (AddWheel settings) s shape h =
     let m = set (s .whole) at.COUNT (countOf (s .whole) + 1) in
-    settled-placed f _ _ _ (s .table) (s .whole) h (λ z. not-aimed f _ (marked m at.NEW) at.NEW (mark-marked m (length-set (s .whole) at.COUNT _ ∙ shape .four) at.NEW) (λ k. omega arith))
-placed-by f (SetControls i controls) s shape h = settled-placed f _ _ _ (s .table) (s .whole) h (λ z. unaimed-placed f _ (s .whole) (shape .four))
+    settled-has (PlacedIfAimed f) _ _ _ (s .table) (s .whole) h (λ z. not-aimed f _ (marked m at.NEW) at.NEW (mark-marked m (length-set (s .whole) at.COUNT _ ∙ shape .four) at.NEW) (λ k. omega arith))
+placed-by f (SetControls i controls) s shape h = settled-has (PlacedIfAimed f) _ _ _ (s .table) (s .whole) h (λ z. unaimed-placed f _ (s .whole) (shape .four))
 placed-by f (Aim chassis) s shape h =
-    settled-placed f _ _ _ (s .table) (s .whole) h (λ z e. rw (count-marked (s .whole) (shape .four) at.AIMED) (placed-by-aim f chassis (countOf (s .whole)) (s .table) (shape .sized) (shape .room)))
-placed-by f (Drive frame n) s shape h = settled-placed f _ _ _ (s .table) (s .whole) h (λ z. not-aimed f _ (marked (s .whole) at.DRIVEN) at.DRIVEN (mark-marked (s .whole) (shape .four) at.DRIVEN) (λ k. omega arith))
-placed-by f (ReadWheel i) s shape h = settled-placed f _ _ _ (s .table) (s .whole) h (λ z. h)
+    settled-has (PlacedIfAimed f) _ _ _ (s .table) (s .whole) h (λ z e. rw (count-marked (s .whole) (shape .four) at.AIMED) (placed-by-aim f chassis (countOf (s .whole)) (s .table) (shape .sized) (shape .room)))
+placed-by f (Drive frame n) s shape h = settled-has (PlacedIfAimed f) _ _ _ (s .table) (s .whole) h (λ z. not-aimed f _ (marked (s .whole) at.DRIVEN) at.DRIVEN (mark-marked (s .whole) (shape .four) at.DRIVEN) (λ k. omega arith))
+placed-by f (ReadWheel i) s shape h = settled-has (PlacedIfAimed f) _ _ _ (s .table) (s .whole) h (λ z. h)
 
 -- ---- a history from an accepted set-up, of whatever was lent
 placed-by-all : (f : Format) (l : List Call) (s : State) → Shape (s .table) (s .whole) → PlacedIfAimed f (s .table) (s .whole) → PlacedIfAimed f (runAll f l s .table) (runAll f l s .whole)

@@ -1,6 +1,7 @@
 -- Change request 2026-02, "Tyres are drawn a frame late": the two centres that a read gives after a drive. Definitions only.
 use Prim.Native.Nat.{ℕ}
-use mathlib.Core.Bool.{Bool, _&&_}
+use mathlib.Core.Bool.{Bool, true, not, _&&_, _||_}
+use mathlib.Core.List.{List, [], _∷_}
 use lib.Ieee.{Float, Format}
 use lib.Ieee.Scale.{finite}
 use Rattle.vector.specs.declared.Vector.{Vector}
@@ -15,13 +16,22 @@ use Rattle.drive.specs.Drive.{driveOf}
 use Rattle.refusals.specs.After.{After}
 use Rattle.read_wheel.specs.declared.Reading.{Reading}
 use Rattle.read_wheel.specs.Read.{readWheel}
+use Rattle.demands.specs.History.{State, state, Call, accepted, run, drives, undrives}
 use Rattle.demands.specs.Impulses.{Step, storedWheel}
 
--- a read of wheel i straight after a drive
-abbrev pub readAfterDrive : Format → Step → ℕ → After Reading
-readAfterDrive f d i =
+-- what is lent after a drive, and a read of wheel i straight after it
+abbrev pub afterDrive : Format → Step → State
+afterDrive f d =
     let driven = driveOf f (d .table) (d .whole) (d .frame) (d .n) in
-    readWheel f (driven .table) (driven .whole) i
+    state (driven .table) (driven .whole)
+
+abbrev pub readAfterDrive : Format → Step → ℕ → After Reading
+readAfterDrive f d i = readWheel f (afterDrive f d .table) (afterDrive f d .whole) i
+
+-- none of the calls is an accepted set-up, add, aim or drive: what is accepted sets controls or reads
+unfoldable pub quiet : Format → List Call → State → Bool
+quiet f [] s = true
+quiet f (c ∷ l) s = not ((drives c || undrives c) && accepted f c s) && quiet f l (run f c s)
 
 -- the length that rule 4 gives for a hit, and rule 5 where nothing is hit
 unfoldable pub lengthBy : Format → RayAnswer → Wheel → Float

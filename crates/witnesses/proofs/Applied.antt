@@ -1,7 +1,7 @@
 -- The theorems of demands/proofs/Demands.antt on histories, accepted calls and wheels, each applied to what the kernel has worked out; those on refusals are applied in Refused.antt. Assumes nothing.
 use Prim.Native.Nat.{_^_}
 use mathlib.Core.Bool.{true, false}
-use mathlib.Core.List.{_∷_}
+use mathlib.Core.List.{List, [], _∷_}
 use mathlib.Core.Path.{_≡_, refl}
 use lib.Dec.{lit<}
 use lib.Ieee.{binary32}
@@ -18,11 +18,11 @@ use Rattle.passes.specs.Step.{wholeStep}
 use Rattle.read_wheel.specs.Read.{refuseRead, readingOf, readWheel}
 use Rattle.aim.specs.Aim.{aimOf, refuseAim, aimedBy, aimedTable}
 use Rattle.drive.specs.Drive.{driveOf, drivenBy}
-use Rattle.demands.specs.History.{State, SetUp, Drive, ReadWheel, accepted, run, drivenSince, readAfter}
+use Rattle.demands.specs.History.{State, Call, SetUp, SetControls, Drive, ReadWheel, accepted, run, runAll, drivenSince, readAfter}
 use Rattle.demands.specs.Held.{Held, handsHeld, HandsHeld}
 use Rattle.demands.specs.Update.{Placed, updateOf, updated}
 use Rattle.demands.specs.Impulses.{Step, Accepted, Stepped, stepAfter, drivenWheel, forwardDemand, sideDemand, forwardImpulse, sideImpulse, skidAt}
-use Rattle.demands.specs.Settled.{readAfterDrive, withLength, centreUnder, isFinite}
+use Rattle.demands.specs.Settled.{afterDrive, readAfterDrive, quiet, withLength, centreUnder, isFinite}
 use Rattle.demands.proofs.Demands as demands
 use Rattle.witnesses.specs.Car.{minus-two, minus-four, five-halves, vector, front, pressed, rolling, road, stretched}
 use Rattle.witnesses.specs.Calls.{lent, fitted, aimed, otherDriven, otherCalls, leftBy, raised, placed, theDrive, otherDrive}
@@ -76,6 +76,23 @@ witness-settled-after-drive = demands.settled-after-drive binary32 theDrive 0 dr
 pub witness-centre-after-drive : readAfterDrive binary32 theDrive 0 .reply .centre ≡ raised (front .connection)
 unfolding opened
 witness-centre-after-drive = demands.centre-after-drive binary32 theDrive 0 drive-accepted (lit< tt)
+
+-- controls that are set after the drive of the second history, and a read, leave the settled centre where it was
+abbrev calm : List Call
+calm = SetControls 1 (pressed zero zero) ∷ ReadWheel 0 ∷ []
+
+is-quiet : quiet binary32 calm (afterDrive binary32 otherDrive) ≡ true
+unfolding opened
+is-quiet = refl
+
+read-again : accepted binary32 (ReadWheel 0) (runAll binary32 calm (afterDrive binary32 otherDrive)) ≡ true
+unfolding opened
+read-again = refl
+
+pub witness-settled-until-next :
+    readWheel binary32 (runAll binary32 calm (afterDrive binary32 otherDrive) .table) (runAll binary32 calm (afterDrive binary32 otherDrive) .whole) 0 .reply .settled
+    ≡ readAfterDrive binary32 otherDrive 0 .reply .settled
+witness-settled-until-next = demands.settled-until-next binary32 otherDrive 0 other-accepted (lit< tt) calm is-quiet read-again
 
 -- ---- demand 2
 abbrev car : State
