@@ -2,7 +2,7 @@
 use Prim.Native.Nat.{ℕ, _+_, _-_, _*_, _^_, _≤_, _<_}
 use mathlib.Core.Bool.{Bool, true, false, cond, _&&_, Bool·beq}
 use mathlib.Core.List.{List}
-use mathlib.Core.Path.{_≡_, refl, sym, ap, _∙_}
+use mathlib.Core.Path.{_≡_, ap}
 use native.Mathlib.Nat.{le-trans, le-of-eq, mul-le-mul, mul-le-mul-right, mul-pos}
 use native.Mathlib.Omega.{arith}
 use lib.Dec.{T, ltb}
@@ -16,7 +16,7 @@ use Rattle.lists.specs.Part.{part}
 use Rattle.lists.proofs.Parts.{getD-part}
 use Rattle.vector.specs.Arithmetic.{addV, scaleV}
 use Rattle.wheel.specs.Ray.{centreOf, settledCentre}
-use Rattle.real.specs.Units.{unit, count, minus?}
+use Rattle.real.specs.Units.{unit, count}
 use Rattle.real.proofs.Bounds.{Bounded, bounded-counted, within-power}
 use Rattle.real.proofs.Rounding.{round-rounds, mul-rounds}
 use Rattle.real.proofs.SignedCounts.{Counted, finite-of, of-fractions, Holds, power-holds}

@@ -9,7 +9,6 @@ use lib.Dec.{eqb}
 use lib.ListN.{length}
 use lib.Ieee.{Float, Format}
 use Rattle.lists.specs.Pick.{pick}
-use Rattle.wheel.specs.declared.Wheel.{Wheel}
 use Rattle.wheel.specs.declared.Controls.{Controls}
 use Rattle.wheel.specs.Parts.{withControls}
 use Rattle.wheel.specs.Ray.{settledCentre}
@@ -20,7 +19,7 @@ use Rattle.refusals.specs.After.{After, after, settled}
 use Rattle.refusals.proofs.Says.{Shape}
 use Rattle.set_up.specs.SetUp.{setUp}
 use Rattle.add_wheel.specs.Add.{addWheel}
-use Rattle.set_controls.specs.Controls.{setControls, refuseControls}
+use Rattle.set_controls.specs.Controls.{setControls}
 use Rattle.set_controls.proofs.Accepted.{set-controls-says}
 use Rattle.read_wheel.specs.Read.{readWheel}
 use Rattle.aim.specs.Aim.{aimOf, notAimed, aimedBy}

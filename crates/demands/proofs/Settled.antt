@@ -1,6 +1,6 @@
 -- The two centres that a read gives after an accepted drive. In order: what a cast keeps, and the length that it gives; rule 1's centre; when a read is accepted, and what it is then; the centre after an aim; a wheel of an accepted drive, and that
 -- it can be read; the same where its transforms are those of the kept chassis, and the aim after it. Assumes nothing.
-use Prim.Native.Nat.{ℕ, _≤_, _<_}
+use Prim.Native.Nat.{ℕ, _<_}
 use mathlib.Core.Bool.{true}
 use mathlib.Core.List.{List}
 use mathlib.Core.Path.{_≡_, refl, sym, ap, _∙_}
@@ -10,14 +10,10 @@ use lib.ListN.{length}
 use lib.Ieee.{Float, Format}
 use Rattle.lists.specs.Pick.{pick}
 use Rattle.lists.specs.Refusal.{firstFailed}
-use Rattle.vector.specs.declared.Vector.{Vector}
 use Rattle.vector.specs.declared.Pose.{Pose}
 use Rattle.body.specs.declared.Body.{Body}
 use Rattle.body.specs.declared.Chassis.{Chassis}
-use Rattle.tyre.specs.declared.WheelTuning.{WheelTuning}
 use Rattle.wheel.specs.declared.Wheel.{Wheel}
-use Rattle.wheel.specs.declared.Settings.{Settings}
-use Rattle.wheel.specs.declared.Place.{Place}
 use Rattle.wheel.specs.declared.RayAnswer.{RayAnswer}
 use Rattle.wheel.specs.declared.RayAnswer.the-variants.{Nothing, Hit, HitUp}
 use Rattle.wheel.specs.Parts.{withMotion}
@@ -33,12 +29,10 @@ use Rattle.refusals.specs.Shape.{countOf, markOf, upOf}
 use Rattle.refusals.specs.After.{After, after, marked}
 use Rattle.refusals.proofs.Says.{Shape}
 use Rattle.refusals.proofs.Settled.{settled-done}
-use Rattle.read_wheel.specs.declared.Reading.{Reading}
 use Rattle.read_wheel.specs.Read.{refuseRead, notRead, readingOf, readWheel}
 use Rattle.aim.specs.declared.Aimed.{Aimed}
 use Rattle.aim.specs.Aim.{aimOf, refuseAim, aimedTable}
 use Rattle.aim.proofs.Accepted.{aim-says}
-use Rattle.drive.specs.declared.Driven.{Driven}
 use Rattle.drive.specs.Drive.{driveOf}
 use Rattle.demands.specs.Update.{Placed}
 use Rattle.demands.specs.Impulses.{Step, Accepted, storedWheel, drivenWheel}

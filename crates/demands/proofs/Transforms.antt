@@ -5,7 +5,7 @@ use mathlib.Core.Bool.{Bool, true, false}
 use mathlib.Core.List.{List, [], _∷_, _++_}
 use mathlib.Core.Path.{_≡_, refl, sym, ap, subst, _∙_}
 use native.Mathlib.Omega.{arith}
-use borrow.Author.Tests.{eqb-true, eqb-false}
+use borrow.Author.Tests.{eqb-false}
 use lib.Dec.{eqb}
 use lib.Ieee.{Float, Format, nan}
 use lib.ListN.{length, set, take, drop, length-set, take-append-drop}
@@ -25,7 +25,7 @@ use Rattle.table.proofs.Laws.{length-keep, chassis-put}
 use Rattle.passes.specs.Passes.{changed, eachWheel, transformAt, transforms}
 use Rattle.passes.proofs.Laws.{chassis-each, wheel-each}
 use Rattle.refusals.specs.Shape.{countOf, markOf}
-use Rattle.refusals.specs.After.{After, after, settled, marked}
+use Rattle.refusals.specs.After.{marked}
 use Rattle.refusals.proofs.Says.{Shape}
 use Rattle.set_up.specs.SetUp.{setUp}
 use Rattle.add_wheel.specs.Add.{addWheel}

@@ -2,10 +2,10 @@
 use Prim.Native.Nat.{ℕ, _≤_}
 use mathlib.Core.Bool.{Bool, true, false}
 use mathlib.Core.List.{List}
-use mathlib.Core.Path.{_≡_, refl}
+use mathlib.Core.Path.{_≡_}
 use native.Mathlib.Omega.{arith}
 use lib.Ieee.{Format}
-use lib.ListN.{length, take}
+use lib.ListN.{take}
 use Rattle.lists.specs.Pick.{pick}
 use Rattle.lists.specs.Part.{paste}
 use Rattle.lists.specs.Puts.{Puts}
