@@ -1,12 +1,10 @@
 -- A table whose numbers the format holds, through the passes and the calls. In order: a wheel and the chassis of a table; a pass; an aim and a step; each call; a history. Assumes nothing.
 use Prim.Native.Nat.{ℕ, _<_}
-use mathlib.Core.Bool.{Bool, true, false}
+use mathlib.Core.Bool.{true}
 use mathlib.Core.List.{List, [], _∷_}
 use mathlib.Core.Path.{_≡_}
 use native.Mathlib.Omega.{arith}
-use lib.Dec.{eqb}
 use lib.Ieee.{Float, Format}
-use Rattle.lists.specs.Pick.{pick}
 use Rattle.lists.specs.All.{all}
 use Rattle.lists.specs.Part.{part}
 use Rattle.lists.proofs.Picks.{pick-true}
@@ -21,7 +19,7 @@ use Rattle.table.specs.Rows.{settingsList, controlsList, chassisList, rowStart,
 use Rattle.ground.specs.Frame.{Frame}
 use Rattle.passes.specs.Passes.{stored, changed, eachWheel, moved, eachMoves, transformAt, transforms, castAt, casts, suspendAt, suspensions, springAt, springs, demandOf, demandAt, demands, rescaleAt, rescales, pushAt, pushes, spinAt, spins}
 use Rattle.passes.specs.Step.{Work, sprung, demanded, pushed, spun, demandStep, wholeStep}
-use Rattle.refusals.specs.After.{After, after, settled}
+use Rattle.refusals.specs.After.{After, settled}
 use Rattle.set_up.specs.SetUp.{setUp}
 use Rattle.add_wheel.specs.Add.{addWheel, newWheel}
 use Rattle.set_controls.specs.Controls.{setControls}
@@ -33,7 +31,7 @@ use Rattle.demands.specs.Held.{areHeld, Held, normalsIn, handsHeld, Hand
 use Rattle.demands.proofs.Each.{Each, each-of-held, held-of-each, each-part, each-paste, each-replicate}
 use Rattle.demands.proofs.HeldWheel.{WheelHeld, ChassisHeld, row-held, list-held, wheel-of-held, chassis-of-held}
 use Rattle.demands.proofs.HeldRules.{zero-fits, transform-held, cast-held, suspended-held, rubbed-held, friction-held, rescaled-held, friction-in-held, spun-held, controlled-held, new-held, pushed-held}
-use Rattle.demands.proofs.Marks.{set-up-leaves}
+use Rattle.demands.proofs.Marks.{settled-has, set-up-leaves}
 
 module _ (f : Format) where
   -- ---- a wheel and the chassis of a table
@@ -99,12 +97,7 @@ module _ (f : Format) where
 
   -- ---- each call
   settled-held : {R : Type 0} (number : ℕ) (refused : ℕ → R) (done : After R) (t : List Float) (m : List ℕ) → Each f t → Each f (done .table) → Each f (settled number refused done t m .table)
-  unfolding settled pick
-  settled-held number refused done t m h k = either (eqb number 0)
-    where
-      either : (b : Bool) → Each f (pick b done (after (refused number) t m) .table)
-      either true = k
-      either false = h
+  settled-held number refused done t m h k = settled-has (λ (x : List Float) (y : List ℕ). Each f x) number refused done t m h (λ z. k)
 
   pub call-held : (c : Call) (s : State) → handsHeld f c ≡ true → Each f (s .table) → Each f (run f c s .table)
   unfolding run answered handsHeld setUp addWheel setControls aimOf driveOf driveUnder readWheel

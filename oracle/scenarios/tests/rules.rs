@@ -388,3 +388,28 @@ fn tables_of_rubbish_follow_the_rules() {
     }
     assert!(held > 1000, "{held}");
 }
+
+/// Change request 2026-02 from rule 1's text: in a table that the calls wrote, the settled centre is
+/// the centre that an aim at the kept chassis would give now, at the length of the drive.
+#[test]
+fn settled_centres_follow_rule_1() {
+    let mut held = 0;
+    for kind in Kind::ALL {
+        for seed in 0..100 {
+            let mut table = Table::new();
+            for code in codes_of(&generate(kind, seed)) {
+                let line = call(&mut table, &code);
+                if let (Code::ReadSettled(wheel), ACCEPTED) = (&code, line.answer) {
+                    let kept = table.numbers[..row::CHASSIS].try_into().expect("a chassis");
+                    let aimed = aim(&table, &Chassis::from_numbers(kept));
+                    let center = aimed.row(*wheel as usize).vector(row::CENTER);
+                    let settled = line.results[15..].iter().map(|word| f32::from_bits(*word));
+                    let settled: Vec<f32> = settled.collect();
+                    assert_eq!(settled, center.parts(), "{} {seed}: {code:?}", kind.name());
+                    held += 1;
+                }
+            }
+        }
+    }
+    assert!(held > 1000, "{held}");
+}
