@@ -496,7 +496,8 @@ fn far_away(random: &mut Random) -> Vec<Code> {
         (MOST, MOST),
         (1.0, MOST),
     ]);
-    // With a hit at time 0 the wheel is up to 2^40 above its hard point: from this one on, beyond the bound.
+    // With a hit at time 0 the wheel settles up to 2^40 away from its hard point, and where that one
+    // lies on the same side beyond 2^40: a place that is given and could not be stored.
     let height = random.pick(&[0.0, 0.0, MOST, -MOST]);
     let connection_point = Vector::new(0.0, height, 0.0);
     let wheel = NewWheel { connection_point, direction, rest_length, radius, ..plain_wheel() };
