@@ -44,12 +44,14 @@ pub record SettingsRange (s : Settings) : Type 0 where
   pub damping : le zero (s .tuning .damping) ≡ true
   pub sideways : le zero (s .tuning .sideways) ≡ true
   pub most : le zero (s .tuning .most) ≡ true
+  pub roll : Between zero one (s .roll)
 
 pub settings-say : (s : Settings) → settingsInRange s ≡ true → SettingsRange s
 unfolding settingsInRange all notNegative
 settings-say s h =
     let radius = pick-true _ _ h in
-    let rest = pick-true _ _ (radius .1) in
+    let roll = pick-true _ _ (radius .1) in
+    let rest = pick-true _ _ (roll .0) in
     let travel = pick-true _ _ (rest .1) in
     let slip = pick-true _ _ (travel .1) in
     let stiffness = pick-true _ _ (slip .1) in
@@ -67,6 +69,7 @@ settings-say s h =
       damping = damping .0;
       sideways = sideways .0;
       most = most .0;
+      roll = unit-says (s .roll) (roll .1);
     }
 
 pub record ControlsRange (f : Format) (c : Controls) : Type 0 where

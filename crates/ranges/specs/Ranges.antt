@@ -18,7 +18,7 @@ use Rattle.table.specs.Rows.{wheelAt, bodyAt}
 unfoldable pub inRange : Float → Float → Float → Bool
 inRange low high x = le low x and le x high
 
--- dt from 0 to 1; a hit's time has the same range (refusal 6)
+-- dt from 0 to 1; a hit's time has the same range (refusal 6), and a roll influence (change request 2026-07)
 unfoldable pub inUnit : Float → Bool
 inUnit x = inRange zero one x
 
@@ -26,11 +26,12 @@ inUnit x = inRange zero one x
 unfoldable pub notNegative : Float → Bool
 notNegative x = le zero x
 
--- radius above 0; rest length, travel, slip, stiffness, dampings, side stiffness and maximum force at least 0
+-- radius above 0; rest length, travel, slip, stiffness, dampings, side stiffness and maximum force at least 0; "a stored setting from 0 to 1", the roll influence
 unfoldable pub settingsInRange : Settings → Bool
 settingsInRange s =
     lt zero (s .radius)
     and all notNegative (s .rest ∷ s .tuning .travel ∷ s .tuning .slip ∷ s .tuning .stiffness ∷ s .tuning .compression ∷ s .tuning .damping ∷ s .tuning .sideways ∷ s .tuning .most ∷ [])
+    and inUnit (s .roll)
 
 -- a rotation's sum of squares, x, y, z, w in order, from 1 − 2^-10 to 1 + 2^-10
 unfoldable pub sumOfSquares : Format → Rotation → Float

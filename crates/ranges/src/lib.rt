@@ -27,7 +27,7 @@ fn is_in_range(low: f32, high: f32, x: f32) -> bool
     if low <= x { x <= high } else { false }
 }
 
-// Whether x is from 0 to 1: a time step, or the time of a hit.
+// Whether x is from 0 to 1: a time step, the time of a hit, or a roll influence.
 pub fn is_in_unit(x: f32) -> bool
     ensures { λ r. ⌜ r ≡ inUnit x ⌝ }
 {
@@ -68,7 +68,11 @@ pub fn are_settings_in_range(s: Settings) -> bool
             s.tuning.sideways,
             s.tuning.most,
         ];
-        are_not_negative(&numbers)
+        if are_not_negative(&numbers) {
+            is_in_unit(s.roll)
+        } else {
+            false
+        }
     } else {
         false
     }

@@ -63,21 +63,17 @@ impulsesOf f tuning kept sprung dt ground grounded answer w =
     let hung = suspendedOf f tuning (kept .invmass) (isGrounded answer) (rayCast f tuning kept answer w) in
     rescaledOf f (frictionOf f tuning dt sprung (isGrounded answer) ground grounded (directionsOf f hung) hung)
 
--- the roll influence, always 0.1
-abbrev pub rollInfluence : Format → Float
-rollInfluence f = ratio f 1 10
-
 -- Rule 9. The side impulse's point: the contact point less up × (up·(point − centre of mass) × (1 − roll influence)).
 unfoldable pub sidePoint : Format → Float → Vector → Vector → Vector → Vector
 sidePoint f roll up point centre = subV f point (scaleV f up (mul f (dotV f up (subV f point centre)) (sub f one roll)))
 
--- Rule 9. Apply forward at the contact point; side at the side point. `up` is the rotated up axis.
+-- Rule 9. Apply forward at the contact point; side at the side point, by the wheel's own roll influence (change request 2026-07). `up` is the rotated up axis.
 unfoldable pub applyFriction : Format → Vector → Directions → Wheel → Chassis → Chassis
 applyFriction f up d w chassis =
     applyImpulseAtPoint f
     (applyImpulseAtPoint f chassis (scaleV f (d .forward) (w .motion .forward)) (w .info .point))
     (scaleV f (d .axis) (w .motion .side))
-    (sidePoint f (rollInfluence f) up (w .info .point) (chassis .body .centre))
+    (sidePoint f (w .settings .roll) up (w .info .point) (chassis .body .centre))
 
 -- Rule 10. Spin in contact: (normalised (normal × world axle) dot velocity at the hard point) × dt / radius; airborne the stored one.
 unfoldable pub contactSpin : Format → Float → Body → Wheel → Float

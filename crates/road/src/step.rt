@@ -15,9 +15,6 @@ ghost use mathlib.Core.Path.{_≡_};
 ghost use lib.Ieee.{binary32};
 ghost use Rattle.road.specs.Step.{contactForce, wheelForce, applySuspension, wheelLimit, sideDemand, rollingDemand, frictionOf, sidePoint, applyFriction, contactSpin, spunBy, updateRotation};
 
-// The roll influence of every wheel: rule 9.
-const ROLL_INFLUENCE: f32 = 0.1;
-
 // Rule 6: the force of the wheel's spring in contact.
 fn contact_force(tuning: WheelTuning, invmass: f32, w: Wheel) -> f32
     ensures { λ r. ⌜ r ≡ contactForce binary32 tuning invmass w ⌝ }
@@ -120,7 +117,7 @@ pub fn apply_friction(up: Vector, d: Directions, w: Wheel, chassis: Chassis) -> 
     let m = w.motion;
     let point = w.info.point;
     let rolled = body::apply_impulse_at_point(chassis, vector::scale(d.forward, m.forward), point);
-    let lifted = side_point(ROLL_INFLUENCE, up, point, chassis.body.centre);
+    let lifted = side_point(w.settings.roll, up, point, chassis.body.centre);
     body::apply_impulse_at_point(rolled, vector::scale(d.axis, m.side), lifted)
 }
 

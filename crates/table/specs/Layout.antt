@@ -1,6 +1,6 @@
 -- Document 01, "What a vehicle keeps": the layout of the lent table. Each place is a named constant, counted from the one before it, and nothing else knows a number. Definitions only.
--- The kept chassis stands first, then the rows. A row holds the numbers of `Wheel` and `RayCastInfo`, part by part, steering as a rotation; contact, ground object and roll influence are
--- not kept. The places in a part are counted from its start, and its length is the last of them: settings and controls are handed in as lists in the same order (docs/STREAM.md).
+-- The kept chassis stands first, then the rows. A row holds the numbers of `Wheel` and `RayCastInfo`, part by part, steering as a rotation; contact and ground object are not
+-- kept. The places in a part are counted from its start, and its length is the last of them: settings and controls are handed in as lists in the same order (docs/STREAM.md).
 use Prim.Native.Nat.{ℕ, _+_, _*_}
 
 -- ---- the kept chassis, at the start of the table
@@ -104,8 +104,11 @@ RADIUS = REST + 1
 abbrev pub TUNING-AT : ℕ
 TUNING-AT = RADIUS + 1
 
+abbrev pub ROLL : ℕ
+ROLL = TUNING-AT + TUNING
+
 abbrev pub SETTINGS : ℕ
-SETTINGS = TUNING-AT + TUNING
+SETTINGS = ROLL + 1
 
 -- ---- the controls of a wheel
 abbrev pub ENGINE : ℕ

@@ -77,10 +77,11 @@ settingsAt l a = record {
   rest = numberAt l (a + at.REST);
   radius = numberAt l (a + at.RADIUS);
   tuning = tuningAt l (a + at.TUNING-AT);
+  roll = numberAt l (a + at.ROLL);
 }
 
 abbrev pub settingsList : Settings → List Float
-settingsList s = vectorList (s .connection) ++ vectorList (s .direction) ++ vectorList (s .axle) ++ (s .rest ∷ s .radius ∷ tuningList (s .tuning))
+settingsList s = vectorList (s .connection) ++ vectorList (s .direction) ++ vectorList (s .axle) ++ (s .rest ∷ s .radius ∷ tuningList (s .tuning)) ++ (s .roll ∷ [])
 
 unfoldable pub controlsAt : List Float → ℕ → Controls
 controlsAt l a = record { engine = numberAt l (a + at.ENGINE); brake = numberAt l (a + at.BRAKE); steering = rotationAt l (a + at.STEERING) }

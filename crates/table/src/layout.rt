@@ -68,7 +68,9 @@ pub const RADIUS: usize = REST + 1;
 
 pub const TUNING_AT: usize = RADIUS + 1;
 
-pub const SETTINGS: usize = TUNING_AT + TUNING;
+pub const ROLL: usize = TUNING_AT + TUNING;
+
+pub const SETTINGS: usize = ROLL + 1;
 
 // The controls of a wheel.
 pub const ENGINE: usize = 0;

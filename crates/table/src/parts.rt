@@ -103,6 +103,7 @@ pub fn settings_at(l: &[f32], a: usize) -> Settings
         rest: l[a + REST],
         radius: l[a + RADIUS],
         tuning: tuning_at(l, a + TUNING_AT),
+        roll: l[a + ROLL],
     }
 }
 
@@ -225,6 +226,7 @@ pub fn settings_numbers(s: Settings) -> [f32; SETTINGS]
         t.sideways,
         t.slip,
         t.most,
+        s.roll,
     ]
 }
 

@@ -1,5 +1,6 @@
 -- A wheel with one part replaced, or with some numbers of a part. Definitions only.
-use lib.Ieee.{Float}
+use lib.Ieee.{Float, Format}
+use Rattle.real.specs.Number.{ratio}
 use Rattle.vector.specs.declared.Vector.{Vector}
 use Rattle.tyre.specs.declared.Approach.{Approach}
 use Rattle.tyre.specs.declared.Friction.{Friction}
@@ -28,6 +29,13 @@ withApproach w approach = record { info = w .info; place = w .place; settings = 
 
 abbrev pub withMotion : Wheel → Motion → Wheel
 withMotion w motion = record { info = w .info; place = w .place; settings = w .settings; controls = w .controls; approach = w .approach; motion = motion }
+
+-- ---- change request 2026-07: "The source fixes it at 0.1." The fraction 1/10, rounded at the format; and settings with another roll influence
+abbrev pub rollInfluence : Format → Float
+rollInfluence f = ratio f 1 10
+
+abbrev pub withRoll : Settings → Float → Settings
+withRoll s roll = record { connection = s .connection; direction = s .direction; axle = s .axle; rest = s .rest; radius = s .radius; tuning = s .tuning; roll = roll }
 
 -- ---- some numbers of a part: the hard point; rotation and spin; the spring's force; the impulses with the skid
 abbrev pub withHard : Wheel → Vector → Wheel

@@ -8,7 +8,7 @@ use vector::Vector;
 
 pub mod ray; // rules 1 and 3 to 5: where the wheel is, and what its ray met
 
-// What was handed in when the wheel was added, in the order of docs/STREAM.md.
+// What was handed in when the wheel was added, in the order of docs/STREAM.md. `roll` is the source's roll_influence.
 pub struct Settings {
     pub connection: Vector,
     pub direction: Vector,
@@ -16,7 +16,11 @@ pub struct Settings {
     pub rest: f32,
     pub radius: f32,
     pub tuning: WheelTuning,
+    pub roll: f32,
 }
+
+// The roll influence that the source gives every wheel.
+pub const ROLL_INFLUENCE: f32 = 0.1;
 
 // What is set before a frame. The steering is a rotation in world space.
 pub struct Controls {

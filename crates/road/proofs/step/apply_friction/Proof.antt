@@ -1,12 +1,10 @@
 -- `road::step::apply_friction` meets its contract: the definition, replayed as the code runs. Assumes nothing.
-use lib.Ieee.{ofBits}
-use Rattle.real.specs.Number.{ratio}
 use Rattle.road.specs.Step.{applyFriction}
 use Rattle.road.proofs.step.apply_friction.Statement.{statement}
 use Rattle.road.proofs.step.apply_friction.Tie as tie
 
 returns : tie.Need-returns
-unfolding applyFriction ratio ofBits
+unfolding applyFriction
 returns c = rw (← c .before .before .before .before .scale .ensures, ← c .before .before .before .apply-impulse-at-point .ensures, ← c .before .before .side-point .ensures, ← c .before .scale2 .ensures, ← c .apply-impulse-at-point2 .ensures)
 
 pub apply-friction-spec : {M : Type 1} → statement M
