@@ -127,6 +127,7 @@ most-asked Asked.Controls = omega arith
 most-asked Asked.Aim = omega arith
 most-asked Asked.Drive = omega arith
 most-asked Asked.Read = omega arith
+most-asked Asked.AddRolled = omega arith
 most-asked Asked.ReadSettled = omega arith
 most-asked Asked.Unknown = omega arith
 

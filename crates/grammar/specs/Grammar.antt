@@ -34,8 +34,9 @@ asked c =
     pick (eqb c at.AIM) Asked.Aim (
     pick (eqb c at.DRIVE) Asked.Drive (
     pick (eqb c at.READ) Asked.Read (
+    pick (eqb c at.ADD-ROLLED) Asked.AddRolled (
     pick (eqb c at.READ-SETTLED) Asked.ReadSettled (
-    Asked.Unknown)))))))
+    Asked.Unknown))))))))
 
 -- after a code
 unfoldable pub afterAsked : Asked → Place
@@ -45,6 +46,7 @@ afterAsked Asked.Controls = 0 then Wheel at.CONTROLS-FLOATS
 afterAsked Asked.Aim = at.AIM-FLOATS then End
 afterAsked Asked.Drive = at.STEP-FLOATS then Bodies
 afterAsked Asked.Read = 0 then Wheel at.READ-FLOATS
+afterAsked Asked.AddRolled = at.ADD-ROLLED-FLOATS then End
 afterAsked Asked.ReadSettled = 0 then Wheel at.READ-FLOATS
 afterAsked Asked.Unknown = 0 then Bad
 

@@ -21,6 +21,13 @@ ADD = 1
 abbrev pub ADD-FLOATS : ℕ
 ADD-FLOATS = 18
 
+-- change request 2026-07: "an add with the new number last"
+abbrev pub ADD-ROLLED : ℕ
+ADD-ROLLED = 6
+
+abbrev pub ADD-ROLLED-FLOATS : ℕ
+ADD-ROLLED-FLOATS = ADD-FLOATS + 1
+
 abbrev pub CONTROLS : ℕ
 CONTROLS = 2
 

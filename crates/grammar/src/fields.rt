@@ -51,6 +51,7 @@ pub fn asked(code: u32) -> Asked
         AIM => Asked::Aim,
         DRIVE => Asked::Drive,
         READ => Asked::Read,
+        ADD_ROLLED => Asked::AddRolled,
         READ_SETTLED => Asked::ReadSettled,
         _ => Asked::Unknown,
     }
@@ -67,6 +68,7 @@ fn after_asked(asked: Asked) -> Place
         Asked::Aim => then(AIM_FLOATS, Mark::End),
         Asked::Drive => then(STEP_FLOATS, Mark::Bodies),
         Asked::Read => then(0, Mark::Wheel(READ_FLOATS)),
+        Asked::AddRolled => then(ADD_ROLLED_FLOATS, Mark::End),
         Asked::ReadSettled => then(0, Mark::Wheel(READ_FLOATS)),
         Asked::Unknown => then(0, Mark::Bad),
     }

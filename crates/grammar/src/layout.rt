@@ -11,6 +11,10 @@ pub const ADD: u32 = 1;
 
 pub const ADD_FLOATS: u32 = 18;
 
+pub const ADD_ROLLED: u32 = 6;
+
+pub const ADD_ROLLED_FLOATS: u32 = ADD_FLOATS + 1;
+
 pub const CONTROLS: u32 = 2;
 
 pub const CONTROLS_FLOATS: u32 = 6;

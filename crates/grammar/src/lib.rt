@@ -10,6 +10,7 @@ pub enum Asked {
     Aim,
     Drive,
     Read,
+    AddRolled,
     ReadSettled,
     Unknown,
 }

@@ -7,6 +7,7 @@ use lib.Ieee.{Float, Format}
 use lib.ListN.{length, replicate}
 use Rattle.lists.specs.Pick.{pick}
 use Rattle.lists.specs.Part.{paste}
+use Rattle.wheel.specs.declared.Settings.{Settings}
 use Rattle.wheel.specs.declared.RayAnswer.the-variants.{Nothing}
 use Rattle.wheel.specs.Ray.{answerAt}
 use Rattle.ground.specs.Frame.{Frame, frame}
@@ -21,7 +22,7 @@ use Rattle.drive.specs.Drive.{driveOf}
 use Rattle.grammar.specs.declared.Asked.{Asked}
 use Rattle.grammar.specs.Layout as code
 use Rattle.grammar.specs.Grammar.{asked}
-use Rattle.scenario.specs.Decode.{numberFrom, settingsFrom, wheelFrom, controlsFrom, chassisFrom}
+use Rattle.scenario.specs.Decode.{numberFrom, rolledFrom, settingsFrom, wheelFrom, controlsFrom, chassisFrom}
 use Rattle.frame_words.specs.Frame.{stepFrom, bodyCountFrom, bodiesFrom, flagsFrom, answerCountFrom, answersStart, answersFrom}
 use Rattle.perform.specs.declared.Answer.{Answer}
 use Rattle.replies.specs.Replies.{aimResults, driveResults, readResults, settledResults}
@@ -44,8 +45,9 @@ unfoldable pub numbered : After ℕ → After Answered
 numbered x = told (λ n. n) (λ n. []) x
 
 -- ---- the call of each code
-abbrev pub addCall : Format → List ℕ → List Float → List ℕ → After Answered
-addCall f l t m = numbered (addWheel t m (settingsFrom f l))
+-- an add, with the settings that its code has
+abbrev pub addCall : Settings → List Float → List ℕ → After Answered
+addCall s t m = numbered (addWheel t m s)
 
 abbrev pub controlsCall : Format → List ℕ → List Float → List ℕ → After Answered
 controlsCall f l t m = numbered (setControls f t m (wheelFrom l) (controlsFrom f l))
@@ -77,11 +79,12 @@ noCall t m = after (answered 0 []) t m
 -- by what is asked for. An unknown code is no case of a whole code: the grammar lets none through
 unfoldable pub callFor : Format → Asked → List ℕ → List Float → List ℕ → After Answered
 callFor f Asked.End l t m = noCall t m
-callFor f Asked.Add l t m = addCall f l t m
+callFor f Asked.Add l t m = addCall (settingsFrom f l) t m
 callFor f Asked.Controls l t m = controlsCall f l t m
 callFor f Asked.Aim l t m = aimCall f l t m
 callFor f Asked.Drive l t m = driveCall f l t m
 callFor f Asked.Read l t m = readCall f (readResults f) l t m
+callFor f Asked.AddRolled l t m = addCall (rolledFrom f l) t m
 callFor f Asked.ReadSettled l t m = readCall f (settledResults f) l t m
 callFor f Asked.Unknown l t m = noCall t m
 

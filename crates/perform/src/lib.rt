@@ -39,7 +39,7 @@ pub fn perform(words: &[u32], table: &mut [f32], whole: &mut [u32], results: &mu
     match asked {
         Asked::End => no_call(),
         Asked::Add => {
-            let number = calls::call_add(words, table, whole);
+            let number = calls::call_add(words, false, table, whole);
             Answer { number, count: 0 }
         }
         Asked::Controls => {
@@ -49,6 +49,10 @@ pub fn perform(words: &[u32], table: &mut [f32], whole: &mut [u32], results: &mu
         Asked::Aim => frames::call_aim(words, table, whole, results),
         Asked::Drive => frames::call_drive(words, table, whole, results),
         Asked::Read => calls::call_read(words, &table[..], &whole[..], false, results),
+        Asked::AddRolled => {
+            let number = calls::call_add(words, true, table, whole);
+            Answer { number, count: 0 }
+        }
         Asked::ReadSettled => calls::call_read(words, &table[..], &whole[..], true, results),
         Asked::Unknown => no_call(),
     }

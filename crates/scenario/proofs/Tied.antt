@@ -4,9 +4,12 @@ use Rattle.table.specs.Layout as table
 use Rattle.grammar.specs.Layout as code
 use Rattle.scenario.specs.Format.{format, widthsOf}
 
--- an add's floats are a wheel's settings, and those of controls a wheel's controls
-pub settings-tied : code.ADD-FLOATS ≡ table.SETTINGS
+-- an add's floats are a wheel's settings, by code 1 those before the roll influence; those of controls are a wheel's controls
+pub settings-tied : code.ADD-ROLLED-FLOATS ≡ table.SETTINGS
 settings-tied = refl
+
+pub unrolled-tied : code.ADD-FLOATS ≡ table.ROLL
+unrolled-tied = refl
 
 pub controls-tied : code.CONTROLS-FLOATS ≡ table.CONTROLS
 controls-tied = refl

@@ -8,6 +8,7 @@ use Rattle.vector.specs.declared.Vector.{Vector}
 use Rattle.body.specs.declared.Chassis.{Chassis}
 use Rattle.wheel.specs.declared.Settings.{Settings}
 use Rattle.wheel.specs.declared.Controls.{Controls}
+use Rattle.wheel.specs.Parts.{rollInfluence, withRoll}
 use Rattle.table.specs.Layout as table
 use Rattle.table.specs.Rows.{settingsAt, controlsAt, chassisOf}
 use Rattle.scenario.specs.Layout as at
@@ -26,9 +27,12 @@ vectorFrom f l a = record { x = floatFrom f l a; y = floatFrom f l (a + 1); z = 
 unfoldable pub floatsFrom : Format → List ℕ → ℕ → ℕ → List Float
 floatsFrom f l a k = listed (λ i. floatFrom f l (a + i)) k 0
 
--- ---- the settings of an add
+-- ---- the settings of an add by code 6, the roll influence last; and by code 1: "Scenario code 1 means 0.1" (change request 2026-07)
+unfoldable pub rolledFrom : Format → List ℕ → Settings
+rolledFrom f l = settingsAt (floatsFrom f l at.FIRST table.SETTINGS) 0
+
 unfoldable pub settingsFrom : Format → List ℕ → Settings
-settingsFrom f l = settingsAt (floatsFrom f l at.FIRST table.SETTINGS) 0
+settingsFrom f l = withRoll (rolledFrom f l) (rollInfluence f)
 
 -- ---- the wheel that controls or a read names, and the controls
 unfoldable pub wheelFrom : List ℕ → ℕ

@@ -7,13 +7,14 @@ use table::parts;
 use table::rows;
 use vector::Vector;
 use wheel::Controls;
+use wheel::ROLL_INFLUENCE;
 use wheel::Settings;
 ghost use mathlib.Core.Path.{_≡_};
 ghost use Prim.Native.Nat.{_+_, _<_, _≤_};
 ghost use lib.ListN.{length};
 ghost use Rattle.grammar.specs.Layout as code;
 ghost use Rattle.scenario.specs.Format.{format};
-ghost use Rattle.scenario.specs.Decode.{floatFrom, floatsFrom, vectorFrom, settingsFrom, wheelFrom, controlsFrom, chassisFrom};
+ghost use Rattle.scenario.specs.Decode.{floatFrom, floatsFrom, vectorFrom, rolledFrom, settingsFrom, wheelFrom, controlsFrom, chassisFrom};
 
 // The float that stands at a.
 pub fn float_from(words: &[u32], a: usize) -> f32
@@ -46,14 +47,24 @@ fn floats_from(words: &[u32], a: usize, numbers: &mut [f32])
     }
 }
 
-// The settings of an add.
-pub fn settings_from(words: &[u32]) -> Settings
+// The settings of an add that has the roll influence last.
+pub fn rolled_from(words: &[u32]) -> Settings
     requires { ⌜ length (now words) ≡ code.CODE-WORDS ⌝ }
-    ensures { λ r. ⌜ r ≡ settingsFrom format (now (words .entry)) ⌝ }
+    ensures { λ r. ⌜ r ≡ rolledFrom format (now (words .entry)) ⌝ }
 {
     let mut numbers = [0.0; layout::SETTINGS];
     floats_from(words, FIRST, &mut numbers);
     parts::settings_at(&numbers, 0)
+}
+
+// The settings of an add that has none: its roll influence is the source's.
+pub fn settings_from(words: &[u32]) -> Settings
+    requires { ⌜ length (now words) ≡ code.CODE-WORDS ⌝ }
+    ensures { λ r. ⌜ r ≡ settingsFrom format (now (words .entry)) ⌝ }
+{
+    let mut s = rolled_from(words);
+    s.roll = ROLL_INFLUENCE;
+    s
 }
 
 // The wheel that controls or a read names.

@@ -36,5 +36,9 @@ returns-8 : tie.Need-returns-8
 unfolding afterAsked
 returns-8 c = rw (c .before .enum-told8 .given .1, ← c .then8 .ensures)
 
+returns-9 : tie.Need-returns-9
+unfolding afterAsked
+returns-9 c = rw (c .before .enum-told9 .given .1, ← c .then9 .ensures)
+
 pub after-asked-spec : {M : Type 1} → statement M
-after-asked-spec = tie.close (tie.spec (λ c. search needs) (λ c κs. tt) (λ c. search needs) (λ c κs. tt) (λ c. search needs) (λ c κs. tt) (λ c. search needs) (λ c κs. tt) (λ c. search needs) (λ c κs. tt) (λ c. search needs) (λ c κs. tt) (λ c. search needs) (λ c κs. tt) (λ c. search needs) (λ c κs. tt) returns returns-2 returns-3 returns-4 returns-5 returns-6 returns-7 returns-8)
+after-asked-spec = tie.close (tie.spec (λ c. search needs) (λ c κs. tt) (λ c. search needs) (λ c κs. tt) (λ c. search needs) (λ c κs. tt) (λ c. search needs) (λ c κs. tt) (λ c. search needs) (λ c κs. tt) (λ c. search needs) (λ c κs. tt) (λ c. search needs) (λ c κs. tt) (λ c. search needs) (λ c κs. tt) (λ c. search needs) (λ c κs. tt) returns returns-2 returns-3 returns-4 returns-5 returns-6 returns-7 returns-8 returns-9)

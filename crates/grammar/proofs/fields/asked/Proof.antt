@@ -34,8 +34,12 @@ unfolding asked pick
 returns-7 c = rw (c .match .keys7)
 
 returns-8 : tie.Need-returns-8
+unfolding asked pick
+returns-8 c = rw (c .match .keys8)
+
+returns-9 : tie.Need-returns-9
 unfolding asked
-returns-8 c = search picks depth 40 fits 4000
+returns-9 c = search picks depth 40 fits 4000
 
 pub asked-spec : {M : Type 1} → statement M
-asked-spec = tie.close (tie.spec returns returns-2 returns-3 returns-4 returns-5 returns-6 returns-7 returns-8)
+asked-spec = tie.close (tie.spec returns returns-2 returns-3 returns-4 returns-5 returns-6 returns-7 returns-8 returns-9)
