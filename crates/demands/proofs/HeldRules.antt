@@ -1,7 +1,7 @@
 -- What each rule makes of a wheel, and of the chassis, when the format holds their numbers. In order: rule 1; rules 3 to 5; rules 6 to 8; rule 10; a new wheel and its controls; an impulse. Assumes nothing.
 use Prim.Native.Nat.{ℕ}
 use mathlib.Core.Bool.{Bool, true, false, cond}
-use mathlib.Core.List.{[], _∷_, _++_}
+use mathlib.Core.List.{List, [], _∷_, _++_}
 use lib.Dec.{T}
 use lib.ListN.{replicate}
 use lib.Ieee.{Float, Format, neg, mul, div, le, lt, eq, ne, fits}
@@ -200,8 +200,9 @@ module _ (f : Format) where
   new-held s k =
       let h = blank-held in
       let z = zero-fits in
-      let towards = vector-first f (s .direction) (vectorList (s .axle) ++ (s .rest ∷ s .radius ∷ tuningList (s .tuning))) (k .1 .1 .1) in
-      let along = vector-first f (s .axle) (s .rest ∷ s .radius ∷ tuningList (s .tuning)) (k .1 .1 .1 .1 .1 .1) in
+      let behind : List Float = (s .rest ∷ s .radius ∷ tuningList (s .tuning)) ++ (s .roll ∷ []) in
+      let towards = vector-first f (s .direction) (vectorList (s .axle) ++ behind) (k .1 .1 .1) in
+      let along = vector-first f (s .axle) behind (k .1 .1 .1 .1 .1 .1) in
       record {
         info = h .info;
         place = record { centre = record { x = z; y = z; z = z }; direction = towards; axle = along };

@@ -1,31 +1,17 @@
-// The calls between frames, made from the words of their codes: add, controls, read.
+// The calls between frames that name a wheel, made from the words of their codes: controls, read.
 use super::Answer;
 use scenario::decode;
 ghost use mathlib.Core.Path.{_≡_};
 ghost use lib.ListN.{length};
 ghost use Rattle.lists.specs.Pick.{pick};
 ghost use Rattle.refusals.specs.After.{after};
-ghost use Rattle.add_wheel.specs.Add.{addWheel};
 ghost use Rattle.set_controls.specs.Controls.{setControls};
 ghost use Rattle.grammar.specs.Layout as code;
 ghost use Rattle.lines.specs.Layout as line;
 ghost use Rattle.scenario.specs.Format.{format};
-ghost use Rattle.scenario.specs.Decode.{rolledFrom, settingsFrom, wheelFrom, controlsFrom};
+ghost use Rattle.scenario.specs.Decode.{wheelFrom, controlsFrom};
 ghost use Rattle.replies.specs.Replies.{readResults, settledResults};
 ghost use Rattle.perform.specs.Call.{readCall, Performs};
-
-// Adds the wheel of the words, which have its roll influence or do not. Answers the number of the call.
-pub fn call_add(words: &[u32], rolled: bool, table: &mut [f32], whole: &mut [u32]) -> u32
-    requires { ⌜ length (now words) ≡ code.CODE-WORDS ⌝ }
-    ensures { λ r. ⌜ after r (now (table .exit)) (now (whole .exit)) ≡ addWheel (now (table .entry)) (now (whole .entry)) (pick rolled (rolledFrom format (now (words .entry))) (settingsFrom format (now (words .entry)))) ⌝ }
-{
-    let s = if rolled {
-        decode::rolled_from(words)
-    } else {
-        decode::settings_from(words)
-    };
-    add_wheel::add_wheel(table, whole, s)
-}
 
 // Sets the controls of the words. Answers the number of the call.
 pub fn call_controls(words: &[u32], table: &mut [f32], whole: &mut [u32]) -> u32

@@ -1,8 +1,9 @@
 // The call of a scenario code: its words in, its answer and its results out.
-mod calls; // add, controls and read
+mod calls; // controls and read
 mod frames; // aim and drive
 
 use grammar::Asked;
+use scenario::decode;
 ghost use mathlib.Core.Path.{_≡_};
 ghost use lib.ListN.{length};
 ghost use Rattle.table.specs.Layout as at;
@@ -39,7 +40,7 @@ pub fn perform(words: &[u32], table: &mut [f32], whole: &mut [u32], results: &mu
     match asked {
         Asked::End => no_call(),
         Asked::Add => {
-            let number = calls::call_add(words, false, table, whole);
+            let number = add_wheel::add_wheel(table, whole, decode::settings_from(words));
             Answer { number, count: 0 }
         }
         Asked::Controls => {
@@ -50,7 +51,7 @@ pub fn perform(words: &[u32], table: &mut [f32], whole: &mut [u32], results: &mu
         Asked::Drive => frames::call_drive(words, table, whole, results),
         Asked::Read => calls::call_read(words, &table[..], &whole[..], false, results),
         Asked::AddRolled => {
-            let number = calls::call_add(words, true, table, whole);
+            let number = add_wheel::add_wheel(table, whole, decode::rolled_from(words));
             Answer { number, count: 0 }
         }
         Asked::ReadSettled => calls::call_read(words, &table[..], &whole[..], true, results),
