@@ -39,8 +39,9 @@ returns-2 : tie.Need-returns-2
 unfolding callOf callFor
 returns-2 c =
     let call = c .before .before .before .before in
-    let arm = call .before .before .before in
-    rw (asks (arm .before .before) _ (arm .enum-told2 .given .1)) (told-number _ _ _ _ _ (call .call-add .ensures))
+    let settings = call .before in
+    let arm = settings .before .before .before in
+    rw (asks (arm .before .before) _ (arm .enum-told2 .given .1), ← settings .settings-from .ensures) (told-number _ _ _ _ _ (call .add-wheel .ensures))
 
 returns-3 : tie.Need-returns-3
 unfolding callOf callFor
@@ -75,17 +76,25 @@ returns-6 c =
     rw (asks (arm .before .before) _ (arm .enum-told6 .given .1)) (call .call-read .ensures)
 
 returns-7 : tie.Need-returns-7
-unfolding callOf callFor pick
+unfolding callOf callFor
 returns-7 c =
-    let call = c .before .before in
-    let arm = call .before .before .before .before in
-    rw (asks (arm .before .before) _ (arm .enum-told7 .given .1)) (call .call-read2 .ensures)
+    let call = c .before .before .before .before in
+    let settings = call .before in
+    let arm = settings .before .before .before in
+    rw (asks (arm .before .before) _ (arm .enum-told7 .given .1), ← settings .rolled-from .ensures) (told-number _ _ _ _ _ (call .add-wheel2 .ensures))
 
 returns-8 : tie.Need-returns-8
-unfolding callOf callFor
+unfolding callOf callFor pick
 returns-8 c =
+    let call = c .before .before in
+    let arm = call .before .before .before .before in
+    rw (asks (arm .before .before) _ (arm .enum-told8 .given .1)) (call .call-read2 .ensures)
+
+returns-9 : tie.Need-returns-9
+unfolding callOf callFor
+returns-9 c =
     let arm = c .before in
-    rw (asks (arm .before .before) _ (arm .enum-told8 .given .1)) (told-none _ _ _ _ (c .no-call2 .ensures))
+    rw (asks (arm .before .before) _ (arm .enum-told9 .given .1)) (told-none _ _ _ _ (c .no-call2 .ensures))
 
 pub perform-spec : {M : Type 1} → statement M
 perform-spec =
@@ -97,6 +106,7 @@ perform-spec =
     (λ c κs. tt)
     (λ c. search needs)
     (λ c κs. search needs)
+    (λ c κs. tt)
     (λ c. search needs)
     (λ c κs. search needs)
     (λ c. search needs)
@@ -105,6 +115,9 @@ perform-spec =
     call-drive-requires
     (λ c. search needs)
     (λ c κs. search needs)
+    (λ c. search needs)
+    (λ c κs. search needs)
+    (λ c κs. tt)
     (λ c. search needs)
     (λ c κs. search needs)
     (λ c. search needs)
@@ -130,6 +143,9 @@ perform-spec =
     returns-6
     (λ c. search needs)
     (λ c. search needs)
-    (λ c. search needs)
     returns-7
-    returns-8)
+    (λ c. search needs)
+    (λ c. search needs)
+    (λ c. search needs)
+    returns-8
+    returns-9)
