@@ -9,6 +9,8 @@ pub mod Passed
 pub mod Impulses
 pub mod MoreBrake
 pub mod Settled
+pub mod Fixed
+pub mod Stored
 pub mod Finite
 pub mod Quiet
 pub mod Numbers

@@ -40,7 +40,7 @@ cast-keeps-controls f tuning kept Nothing w = refl
 cast-keeps-controls f tuning kept (Hit time normal named) w = refl
 cast-keeps-controls f tuning kept (HitUp time normal upward named) w = refl
 
-cast-keeps-settings : (f : Format) (tuning : WheelTuning) (kept : Body) (answer : RayAnswer) (w : Wheel) → rayCast f tuning kept answer w .settings ≡ w .settings
+pub cast-keeps-settings : (f : Format) (tuning : WheelTuning) (kept : Body) (answer : RayAnswer) (w : Wheel) → rayCast f tuning kept answer w .settings ≡ w .settings
 unfolding rayCast hitOf missOf
 cast-keeps-settings f tuning kept Nothing w = refl
 cast-keeps-settings f tuning kept (Hit time normal named) w = refl

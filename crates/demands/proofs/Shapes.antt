@@ -40,6 +40,9 @@ module _ (m : List ℕ) (four : length m ≡ at.WHOLE) where
   pub count-marked : (mark : ℕ) → countOf (marked m mark) ≡ countOf m
   count-marked mark = set-other at.MARK at.COUNT mark (λ e. omega arith)
 
+  pub count-counted : (n : ℕ) → countOf (set m at.COUNT n) ≡ n
+  count-counted n = set-same at.COUNT n (omega arith)
+
 pub shape-marked : {t : List Float} {m : List ℕ} → Shape t m → (mark : ℕ) → mark ≤ at.DRIVEN → Shape t (marked m mark)
 shape-marked {t} {m} s mark l =
     let other : (j : ℕ) → (j ≡ at.MARK → ⊥) → getD (marked m mark) j 0 ≡ getD m j 0 = λ j ne. set-other m (s .four) at.MARK j mark ne in

@@ -5,4 +5,5 @@ pub mod Update
 pub mod Impulses
 pub mod MoreBrake
 pub mod Settled
+pub mod Fixed
 pub mod Same
