@@ -1,13 +1,16 @@
 -- The three demands, and the change requests that are theorems, over the definitions of the six calls: setUp, addWheel, setControls, aimOf, driveOf and readWheel, each in the crate of its call. The demand's or the
 -- request's own words stand above each.
 -- That a function is its definition, and that it ends for all numbers and every lent table, is each function's contract, proved in its own crate: none has a `requires`. Assumes nothing.
-use Prim.Native.Nat.{ℕ, _<_}
+use Prim.Native.Nat.{ℕ, _≤_, _<_}
 use mathlib.Core.Bool.{true, false}
 use mathlib.Core.List.{List, _∷_}
 use mathlib.Core.Path.{_≡_, refl, sym, ap, subst, _∙_}
 use native.Mathlib.Omega.{arith}
 use borrow.Author.Tests.{eqb-true, eq-eqb}
-use lib.Ieee.{Float, Format, lt, le, eq}
+use lib.Ieee.{Float, Format, binary32, binary64, lt, le, eq}
+use lib.ListN.{length}
+use Rattle.lists.specs.Pick.{pick}
+use Rattle.real.specs.Number.{ratio}
 use Rattle.vector.specs.declared.Pose.{Pose}
 use Rattle.body.specs.declared.Chassis.{Chassis}
 use Rattle.wheel.specs.declared.Wheel.{Wheel}
@@ -15,7 +18,9 @@ use Rattle.wheel.specs.declared.Place.{Place}
 use Rattle.wheel.specs.declared.Settings.{Settings}
 use Rattle.wheel.specs.declared.Controls.{Controls}
 use Rattle.wheel.specs.Ray.{centreOf}
+use Rattle.wheel.specs.Parts.{rollInfluence}
 use Rattle.tyre.specs.declared.Friction.{Friction}
+use Rattle.tyre.specs.declared.WheelTuning.{WheelTuning}
 use Rattle.tyre.specs.Grip.{skidOf, rescaledBy}
 use Rattle.tyre.specs.Demand3.{precision, Grips, WithinBrake, leastLimit}
 use Rattle.tyre.specs.MoreBrake.{BrakesNoLess}
@@ -23,6 +28,7 @@ use Rattle.tyre.proofs.Demand3.{not-sliding, sliding}
 use Rattle.table.specs.Layout as at
 use Rattle.table.specs.Rows.{wheelAt, chassisAt}
 use Rattle.ground.specs.Frame.{Frame}
+use Rattle.ranges.specs.Ranges.{inRange, inUnit}
 use Rattle.refusals.specs.Shape.{countOf, markOf, upOf, forwardOf}
 use Rattle.refusals.specs.After.{After, after, settled, marked}
 use Rattle.refusals.specs.Normals.{normalsOk}
@@ -36,7 +42,7 @@ use Rattle.read_wheel.specs.Read.{readWheel, refuseRead, notRead, readingOf}
 use Rattle.read_wheel.proofs.Accepted.{read-says}
 use Rattle.aim.specs.Aim.{aimOf, refuseAim, notAimed, aimedBy, aimedTable}
 use Rattle.passes.specs.Passes.{stored}
-use Rattle.passes.specs.Step.{wholeStep}
+use Rattle.passes.specs.Step.{Work, wholeStep}
 use Rattle.drive.specs.Drive.{driveUnder, driveOf, refuseDrive, notDriven, drivenBy}
 use Rattle.drive.proofs.Accepted.{drive-says}
 use Rattle.demands.specs.History.{State, Call, SetUp, Drive, ReadWheel, answered, accepted, run, runAll, drivenSince, countAfter, readAfter}
@@ -46,6 +52,7 @@ use Rattle.demands.specs.Update.{Placed, updateOf, updated}
 use Rattle.demands.specs.Impulses.{Step, stepAfter, Accepted, Stepped, Grounded, storedWheel, drivenWheel, forwardDemand, sideDemand, gripLimit, forwardImpulse, sideImpulse, skidAt, brakeOf, slidesAt, poweredAt, Alike}
 use Rattle.demands.specs.MoreBrake.{AlikeButForBrake}
 use Rattle.demands.specs.Settled.{afterDrive, readAfterDrive, quiet, driveLength, withLength, centreUnder, isFinite}
+use Rattle.demands.specs.Fixed.{fixedStep, IsTenth, AllTenth, AddsHand}
 use Rattle.demands.proofs.Marks.{history-from-set-up}
 use Rattle.demands.proofs.Five.{five-of-not-driven, not-five-of-driven}
 use Rattle.demands.proofs.Numbers.{number-among}
@@ -57,6 +64,8 @@ use Rattle.demands.proofs.Impulses.{tests, forward-rescaled, side-resca
 use Rattle.demands.proofs.Settled.{driven-settled, driven-place, read-done, read-after-drive, shape-after-drive, settled-of-placed, next-centre}
 use Rattle.demands.proofs.Quiet.{quiet-stays}
 use Rattle.demands.proofs.Finite.{settled-finite}
+use Rattle.demands.proofs.Fixed.{step-alike}
+use Rattle.demands.proofs.Stored.{stored-from-set-up}
 use Rattle.demands.proofs.MoreBrake.{demand-no-less, demand-equal, demand-same}
 
 -- ---- Demand 1. "A bad call is answered by a number of document 01": the number that a call answers is that of its refusal list, 0 where no test of the list fails.
@@ -281,6 +290,40 @@ module _ (f : Format) (lent : State) (up forward : ℕ) (l : List Call) (set-up 
 -- drive are those that `normalsOk` accepts, and every theorem above on accepted drives reads over those.
 pub accepted-normals : (f : Format) (t : List Float) (m : List ℕ) (r : Frame) (n i : ℕ) → refuseDrive f t m r n ≡ 0 → i < n → normalsOk f (r .answer i) ≡ true
 accepted-normals f t m r n i h l = normals-say f (r .answer) n i (drive-says f t m r n h .early .normals) l
+
+-- ---- Change request 2026-07, "Roll influence per wheel." "With 0.1 everywhere demand 2 reads as it did": where each wheel of a step stores 0.1, the step is `fixedStep`, whose rule 9 has 0.1 for every wheel. From any stored
+-- state, under any tuning.
+pub step-as-before : (f : Format) (tune : WheelTuning → WheelTuning) (up n : ℕ) (r : Frame) (t : List Float) → length t ≡ at.SIZE → n ≤ at.WHEELS → AllTenth f t n → wholeStep f tune up r n t ≡ fixedStep f tune up r n t
+step-as-before f tune up n r t s l tenth = step-alike f tune r n l t s up tenth
+
+-- so an accepted drive answers and stores what that step gives: `accepted-drive` with the step of before
+pub drive-as-before : (f : Format) (t : List Float) (m : List ℕ) (r : Frame) (n : ℕ) → AllTenth f t n → refuseDrive f t m r n ≡ 0
+    → driveOf f t m r n ≡ after (drivenBy t n (fixedStep f stored (upOf m) r n t)) (fixedStep f stored (upOf m) r n t .table) (marked m at.DRIVEN)
+drive-as-before f t m r n tenth h =
+    let a = drive-says f t m r n h .early .frame in
+    let same = step-as-before f stored (upOf m) n r t (a .shape .sized) (let e = a .each in let l = a .shape .room in omega arith) tenth in
+    driven-is f t m r n h ∙ ap (λ (s : Work). after (drivenBy t n s) (s .table) (marked m at.DRIVEN)) same
+
+-- 0.1 is from 0 to 1: refusal 10 lets it through at add, aim and drive
+pub tenth-in-range : (f : Format) → inUnit (rollInfluence f) ≡ true
+unfolding inUnit inRange pick ratio le
+tenth-in-range binary32 = refl
+tenth-in-range binary64 = refl
+
+-- "a stored setting .. the add call takes it": what holds of the settings that every add hands in holds of those that each used wheel stores. Over every history, as above.
+module _ (f : Format) (lent : State) (up forward : ℕ) (l : List Call) (set-up : accepted f (SetUp up forward) lent ≡ true) where
+  pub stored-as-added : (P : Settings → Type 0) → AddsHand P l → (i : ℕ) → i < countAfter f (SetUp up forward ∷ l) lent → P (wheelAt (runAll f (SetUp up forward ∷ l) lent .table) i .settings)
+  stored-as-added P k = stored-from-set-up P f lent up forward l set-up k
+
+  -- so where every add hands in 0.1, as code 1 does, every accepted drive is that of before
+  pub history-as-before : AddsHand (IsTenth f) l → (r : Frame) (n : ℕ) → let now = runAll f (SetUp up forward ∷ l) lent in accepted f (Drive r n) now ≡ true
+      → driveOf f (now .table) (now .whole) r n ≡ after (drivenBy (now .table) n (fixedStep f stored (upOf (now .whole)) r n (now .table))) (fixedStep f stored (upOf (now .whole)) r n (now .table) .table) (marked (now .whole) at.DRIVEN)
+  unfolding accepted answered
+  history-as-before k r n h =
+      let s = runAll f (SetUp up forward ∷ l) lent in
+      let z : refuseDrive f (s .table) (s .whole) r n ≡ 0 = sym (drive-number f (s .table) (s .whole) r n) ∙ eqb-true _ 0 h in
+      let each = drive-says f (s .table) (s .whole) r n z .early .frame .each in
+      drive-as-before f (s .table) (s .whole) r n (λ i u. stored-as-added (IsTenth f) k i (omega arith)) z
 
 -- ---- Change request 2026-13, "More brake, never less braking." "For an unpowered grounded wheel, with chassis after the springs, hit, ground, number of grounded wheels and own row but for the brake held the same, show
 -- that a greater brake never gives a rolling demand of smaller magnitude, nor one of the opposite sign unless a zero is involved. It speaks of the demand before the slide test, for two accepted steps."
