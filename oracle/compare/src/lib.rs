@@ -4,6 +4,7 @@
 mod centres;
 mod difference;
 mod normals;
+mod rolls;
 mod runner;
 mod streams;
 mod tally;

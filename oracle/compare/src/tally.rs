@@ -8,18 +8,20 @@ use vehicle::table::{ACCEPTED, MALFORMED};
 
 use crate::centres::Centres;
 use crate::normals::Normals;
+use crate::rolls::Rolls;
 
 /// The refusal numbers of document 01 and of the change requests, 0 included.
 const ANSWERS: [u32; 12] = [0, 1, 2, 3, 4, 5, 6, 7, 8, 9, 10, 12];
 
 /// The codes that there are, and what each is called.
-const CODES: [(u32, &str); 7] = [
+const CODES: [(u32, &str); 8] = [
     (0, "end"),
     (1, "add"),
     (2, "controls"),
     (3, "aim"),
     (4, "drive"),
     (5, "read"),
+    (6, "add rolled"),
     (8, "read settled"),
 ];
 
@@ -38,6 +40,7 @@ pub struct Tally {
     mixed_drives: u64,
     centres: Centres,
     normals: Normals,
+    rolls: Rolls,
 }
 
 impl Tally {
@@ -48,6 +51,7 @@ impl Tally {
             self.add_wheels(line);
             self.centres.add(line);
             self.normals.add(line);
+            self.rolls.add(line);
         }
     }
 
@@ -78,6 +82,7 @@ impl Tally {
         self.mixed_drives += other.mixed_drives;
         self.centres = self.centres.and(other.centres);
         self.normals = self.normals.and(other.normals);
+        self.rolls = self.rolls.and(other.rolls);
         self
     }
 
@@ -123,7 +128,7 @@ impl fmt::Display for Tally {
             self.sliding, self.gripping, self.airborne
         )?;
         writeln!(out, "  sliding with a skid not below 1: {}", self.sliding_unscaled)?;
-        write!(out, "{}{}", self.centres, self.normals)?;
+        write!(out, "{}{}{}", self.centres, self.normals, self.rolls)?;
         let seen = ANSWERS.map(|answer| format!("{answer}: {}", self.count(|_, a| a == answer)));
         writeln!(out, "answers          {}", seen.join(", "))
     }

@@ -340,6 +340,7 @@ fn wheel(random: &mut Random, pairs: usize) -> NewWheel {
         side_stiffness: random.pick(&[0.5, 1.0, 1.0, 3.0]),
         slip: random.pick(&[0.1, 0.4, 0.8, 1.0, 1.5, 3.0, 10.5]),
         max_force: random.pick(&[800.0, 6000.0, 6000.0, 100_000.0]),
+        roll_influence: None,
     }
 }
 

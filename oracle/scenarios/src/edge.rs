@@ -55,6 +55,7 @@ fn plain_wheel() -> NewWheel {
         side_stiffness: 1.0,
         slip: 1.0,
         max_force: 1000.0,
+        roll_influence: None,
     }
 }
 

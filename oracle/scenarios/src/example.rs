@@ -104,6 +104,7 @@ fn wheel(connection_point: Vector) -> NewWheel {
         side_stiffness: 1.0,
         slip: 0.8,
         max_force: 6000.0,
+        roll_influence: None,
     }
 }
 

@@ -11,6 +11,7 @@ mod edge;
 mod example;
 mod parts;
 mod random;
+mod roll;
 mod rubbish;
 mod script;
 mod turning;
@@ -18,8 +19,8 @@ mod wild;
 
 use random::Random;
 
-pub use broken::unbroken;
 pub use example::{drives, example, landing};
+pub use roll::unbroken;
 pub use rubbish::{rubbish, Rubbish};
 
 /// What a scenario is like.
@@ -35,10 +36,13 @@ pub enum Kind {
     Bad,
     /// Streams that are cut or have a malformed place.
     Broken,
+    /// The others with roll influences: adds by code 6.
+    Roll,
 }
 
 impl Kind {
-    pub const ALL: [Kind; 5] = [Kind::Car, Kind::Edge, Kind::Wild, Kind::Bad, Kind::Broken];
+    pub const ALL: [Kind; 6] =
+        [Kind::Car, Kind::Edge, Kind::Wild, Kind::Bad, Kind::Broken, Kind::Roll];
 
     pub fn name(self) -> &'static str {
         match self {
@@ -47,6 +51,7 @@ impl Kind {
             Kind::Wild => "wild",
             Kind::Bad => "bad",
             Kind::Broken => "broken",
+            Kind::Roll => "roll",
         }
     }
 
@@ -64,5 +69,6 @@ pub fn generate(kind: Kind, seed: u64) -> Vec<u8> {
         Kind::Wild => wild::scenario(&mut random),
         Kind::Bad => bad::scenario(&mut random, seed),
         Kind::Broken => broken::scenario(&mut random, seed),
+        Kind::Roll => roll::scenario(&mut random, seed),
     }
 }

@@ -112,6 +112,7 @@ impl Size {
             side_stiffness: self.positive(random),
             slip: self.positive(random),
             max_force: self.positive(random) * 64.0,
+            roll_influence: None,
         }
         .cut_to_bounds()
     }

@@ -7,6 +7,7 @@ use vehicle::table::Table;
 
 use crate::parts::{rotation, Size};
 use crate::random::Random;
+use crate::roll::{bad_roll, good_roll, rolled};
 
 /// A table and the codes to run on it.
 pub struct Rubbish {
@@ -64,6 +65,8 @@ fn fit_settings(random: &mut Random, size: Size, table: &mut Table, wheel: usize
         let place = random.below(ROW);
         row.0[place] = size.number(random) * 65_536.0;
     }
+    row.0[row::ROLL_INFLUENCE] =
+        if random.once_in(24) { bad_roll(random) } else { good_roll(random) };
     row.set_steering(rotation(random));
     table.set_row(wheel, &row);
 }
@@ -98,7 +101,10 @@ fn codes(random: &mut Random, table: &Table) -> Vec<Code> {
         let wheel = random.below(5) as u32;
         let wheels = (table.count as usize).min(row::WHEELS);
         codes.push(match random.below(8) {
-            0 => Code::Add(size.wheel(random)),
+            0 => {
+                let wheel = size.wheel(random);
+                Code::Add(rolled(random, wheel))
+            }
             1 => Code::Controls(wheel, size.controls(random)),
             2 | 3 => Code::Aim(size.chassis(random)),
             4 | 5 => Code::Drive(size.drive(random, wheels)),

@@ -2,7 +2,7 @@
 //! steps: where the two differed, the text and the source would not say the same.
 
 use scenarios::{generate, rubbish, Kind};
-use vehicle::handed::{Chassis, Drive, GroundBody, Hit};
+use vehicle::handed::{Chassis, Drive, GroundBody, Hit, NewWheel};
 use vehicle::math::{Inertia, Vector};
 use vehicle::program::call;
 use vehicle::row::{self, Row};
@@ -13,6 +13,7 @@ use vehicle::utils::inv;
 /// The table after a call that is accepted.
 fn by_the_rules(table: &Table, code: &Code) -> Option<Table> {
     match code {
+        Code::Add(wheel) => Some(add(table, wheel)),
         Code::Aim(chassis) => Some(aim(table, chassis)),
         Code::Drive(drive) => Some(Driving::new(table, drive).run()),
         _ => None,
@@ -21,6 +22,23 @@ fn by_the_rules(table: &Table, code: &Code) -> Option<Table> {
 
 fn put(row: &mut Row, place: usize, vector: Vector) {
     row.0[place..place + 3].copy_from_slice(&vector.parts());
+}
+
+/// "A new row holds what was handed in, direction and axle also as the world ones, identity steering,
+/// 0 elsewhere." Change request 2026-07: code 1 means 0.1.
+fn add(table: &Table, wheel: &NewWheel) -> Table {
+    let mut row = Row::ZERO;
+    let first = row::CONNECTION_POINT;
+    row.0[first..first + NewWheel::NUMBERS].copy_from_slice(&wheel.numbers());
+    row.0[first + NewWheel::NUMBERS] = wheel.roll_influence.unwrap_or(0.1);
+    put(&mut row, row::WORLD_DIRECTION, wheel.direction);
+    put(&mut row, row::WORLD_AXLE, wheel.axle);
+    row.0[row::STEERING + 3] = 1.0;
+    let mut after = table.clone();
+    after.set_row(table.count as usize, &row);
+    after.count += 1;
+    after.mark = 0;
+    after
 }
 
 /// Rule 1.
@@ -295,7 +313,7 @@ impl<'a> Driving<'a> {
         let mut up_axis = [0.0; 3];
         up_axis[self.table.up as usize] = 1.0;
         let up = self.kept.pose.rotation * Vector::new(up_axis[0], up_axis[1], up_axis[2]);
-        let lift = up.dot(point - self.chassis.center) * (1.0 - 0.1);
+        let lift = up.dot(point - self.chassis.center) * (1.0 - row.0[row::ROLL_INFLUENCE]);
         self.apply(axis * row.0[row::SIDE_IMPULSE], point - up * lift);
     }
 
@@ -346,7 +364,7 @@ fn bits(table: &Table) -> Vec<u32> {
     whole.into_iter().chain(numbers).collect()
 }
 
-/// Runs the codes and holds every accepted aim and drive against the rules. Gives their number.
+/// Runs the codes and holds every accepted add, aim and drive against the rules. Gives their number.
 fn hold(mut table: Table, codes: &[Code], what: &str) -> usize {
     let mut held = 0;
     for code in codes {

@@ -42,6 +42,7 @@ impl crate::step::Kept for Wheel {
             &mut self.side_friction_stiffness,
             &mut self.friction_slip,
             &mut self.max_suspension_force,
+            &mut self.roll_influence,
             &mut self.engine_force,
             &mut self.brake,
             &mut self.suspension_relative_velocity,

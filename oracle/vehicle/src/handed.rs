@@ -6,7 +6,8 @@
 use crate::math::{Inertia, Pose, Real, Rotation, Vector};
 use crate::row::CHASSIS;
 
-/// What an added wheel is made of; the last seven are those of `WheelTuning`, in its order.
+/// What an added wheel is made of; the seven from the stiffness on are those of `WheelTuning`, in its
+/// order.
 #[derive(Copy, Clone, Debug, PartialEq)]
 pub struct NewWheel {
     pub connection_point: Vector,
@@ -21,9 +22,12 @@ pub struct NewWheel {
     pub side_stiffness: Real,
     pub slip: Real,
     pub max_force: Real,
+    /// Change request 2026-07. None leaves it as the source sets it.
+    pub roll_influence: Option<Real>,
 }
 
 impl NewWheel {
+    /// Numbers but for the roll influence.
     pub const NUMBERS: usize = 18;
 
     pub fn numbers(&self) -> [Real; Self::NUMBERS] {
@@ -66,7 +70,13 @@ impl NewWheel {
             side_stiffness: n[15],
             slip: n[16],
             max_force: n[17],
+            roll_influence: None,
         }
+    }
+
+    /// Every number that is handed in.
+    pub fn handed_in(&self) -> Vec<Real> {
+        self.numbers().into_iter().chain(self.roll_influence).collect()
     }
 }
 

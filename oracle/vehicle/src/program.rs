@@ -3,7 +3,8 @@
 use std::fmt::Write;
 
 use crate::handed::Hit;
-use crate::stream::{Code, Malformed, Reader};
+use crate::math::Real;
+use crate::stream::{add_code, Code, Malformed, Reader};
 use crate::table::{Grip, Table, WheelRead, ACCEPTED, MALFORMED};
 
 /// The first line of every output.
@@ -20,11 +21,20 @@ pub struct Line {
     pub grips: Vec<Grip>,
     /// What the rays of a drive met, accepted or not; not printed.
     pub hits: Vec<Hit>,
+    /// What an add handed in, accepted or not; not printed.
+    pub roll_influence: Option<Real>,
 }
 
 impl Line {
     fn plain(code: u32, answer: u32) -> Line {
-        Line { code, answer, results: Vec::new(), grips: Vec::new(), hits: Vec::new() }
+        Line {
+            code,
+            answer,
+            results: Vec::new(),
+            grips: Vec::new(),
+            hits: Vec::new(),
+            roll_influence: None,
+        }
     }
 
     /// A code's line; the results of a refused call are zeros and are not shown.
@@ -47,7 +57,11 @@ impl Line {
 pub fn call(table: &mut Table, code: &Code) -> Line {
     match code {
         Code::End => Line::plain(0, ACCEPTED),
-        Code::Add(wheel) => Line::plain(1, table.add_wheel(wheel)),
+        Code::Add(wheel) => {
+            let answer = table.add_wheel(wheel);
+            let roll_influence = wheel.roll_influence;
+            Line { roll_influence, ..Line::plain(add_code(wheel), answer) }
+        }
         Code::Controls(wheel, controls) => Line::plain(2, table.set_controls(*wheel, controls)),
         Code::Aim(chassis) => {
             let aimed = table.aim(chassis);

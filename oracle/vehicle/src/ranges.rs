@@ -59,6 +59,10 @@ pub fn normals_in_range(hit: &Hit) -> bool {
     (is_exempt(hit) || normal_in_range(hit.normal)) && hit.upward_normal.is_none_or(normal_in_range)
 }
 
+pub fn roll_influence_in_range(roll_influence: Real) -> bool {
+    lies_between(0.0, roll_influence, 1.0)
+}
+
 /// The settings that an added wheel hands in.
 pub fn new_wheel_in_range(wheel: &NewWheel) -> bool {
     let others = [
@@ -71,7 +75,9 @@ pub fn new_wheel_in_range(wheel: &NewWheel) -> bool {
         wheel.slip,
         wheel.max_force,
     ];
-    wheel.radius > 0.0 && others.into_iter().all(at_least_zero)
+    wheel.radius > 0.0
+        && others.into_iter().all(at_least_zero)
+        && wheel.roll_influence.is_none_or(roll_influence_in_range)
 }
 
 pub fn controls_in_range(controls: &Controls) -> bool {
@@ -93,6 +99,7 @@ pub fn row_in_range(row: &Row) -> bool {
     ];
     row.0[row::RADIUS] > 0.0
         && others.into_iter().all(|place| at_least_zero(row.0[place]))
+        && roll_influence_in_range(row.0[row::ROLL_INFLUENCE])
         && rotation_in_range(row.steering())
 }
 

@@ -1,8 +1,8 @@
 //! Where each number stands in the lent table: the kept chassis, then 16 wheel rows.
 //!
 //! A row holds the numbers of `Wheel` and `RayCastInfo` part by part: the ray's info, the place, the
-//! settings, the controls, the approach, the motion. Contact, ground object and roll influence are
-//! not kept; steering is kept as a rotation.
+//! settings, the controls, the approach, the motion. Contact and ground object are not kept; steering
+//! is kept as a rotation.
 
 use std::ops::Range;
 
@@ -13,7 +13,7 @@ pub const WHEELS: usize = 16;
 /// Numbers of the kept chassis.
 pub const CHASSIS: usize = 26;
 /// Numbers of one wheel's row.
-pub const ROW: usize = 51;
+pub const ROW: usize = 52;
 /// Numbers of a table.
 pub const TABLE: usize = CHASSIS + WHEELS * ROW;
 /// Numbers of a row but for its steering: those that the source's `Wheel` holds as they are.
@@ -38,17 +38,18 @@ pub const TRAVEL: usize = 33;
 pub const SIDE_STIFFNESS: usize = 34;
 pub const SLIP: usize = 35;
 pub const MAX_FORCE: usize = 36;
-pub const ENGINE: usize = 37;
-pub const BRAKE: usize = 38;
-pub const STEERING: usize = 39;
-pub const RELATIVE_VELOCITY: usize = 43;
-pub const CLIPPED_INVERSE: usize = 44;
-pub const ROTATION: usize = 45;
-pub const DELTA_ROTATION: usize = 46;
-pub const SUSPENSION_FORCE: usize = 47;
-pub const FORWARD_IMPULSE: usize = 48;
-pub const SIDE_IMPULSE: usize = 49;
-pub const SKID: usize = 50;
+pub const ROLL_INFLUENCE: usize = 37;
+pub const ENGINE: usize = 38;
+pub const BRAKE: usize = 39;
+pub const STEERING: usize = 40;
+pub const RELATIVE_VELOCITY: usize = 44;
+pub const CLIPPED_INVERSE: usize = 45;
+pub const ROTATION: usize = 46;
+pub const DELTA_ROTATION: usize = 47;
+pub const SUSPENSION_FORCE: usize = 48;
+pub const FORWARD_IMPULSE: usize = 49;
+pub const SIDE_IMPULSE: usize = 50;
+pub const SKID: usize = 51;
 
 /// What an aim works out in a row: hard point, centre, world direction and world axle.
 pub const TRANSFORMS: Range<usize> = HARD_POINT..CONNECTION_POINT;

@@ -12,7 +12,7 @@ use crate::geometry::{AnsweredShape, Collider, ColliderSet, Ray, RayIntersection
 use crate::handed::{Chassis, GroundBody, Hit, NewWheel, RayAnswer};
 use crate::math::{line_up_steering, Inertia, Pose, Real, Rotation, Vector};
 use crate::pipeline::{Casts, QueryPipelineMut};
-use crate::row::{Row, KEPT};
+use crate::row::{self, Row, KEPT};
 
 /// The chassis stands first among the bodies; ground body n follows at n + 1.
 const CHASSIS_HANDLE: RigidBodyHandle = RigidBodyHandle(0);
@@ -94,7 +94,8 @@ runner!(
     run_demands, demands
 );
 
-/// The row of a new wheel, as the source's own `add_wheel` makes it, with identity steering.
+/// The row of a new wheel, as the source's own `add_wheel` makes it, with identity steering; the
+/// source's roll influence, unless another is handed in.
 pub fn new_row(new: &NewWheel) -> Row {
     let mut vehicle = as_sent::DynamicRayCastVehicleController::new(CHASSIS_HANDLE);
     let tuning = as_sent::WheelTuning {
@@ -114,7 +115,11 @@ pub fn new_row(new: &NewWheel) -> Row {
         new.radius,
         &tuning,
     );
-    Row::from_kept(wheel.kept().map(|number| *number), Rotation::IDENTITY)
+    let mut row = Row::from_kept(wheel.kept().map(|number| *number), Rotation::IDENTITY);
+    if let Some(roll_influence) = new.roll_influence {
+        row.0[row::ROLL_INFLUENCE] = roll_influence;
+    }
+    row
 }
 
 fn bodies_of(step: &Step) -> RigidBodySet {

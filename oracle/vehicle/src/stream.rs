@@ -56,7 +56,7 @@ impl<'a> Reader<'a> {
     fn fields(&mut self, code: u32) -> Result<Code, Broken> {
         Ok(match code {
             0 => Code::End,
-            1 => Code::Add(NewWheel::from_numbers(self.floats::<{ NewWheel::NUMBERS }>()?)),
+            1 => Code::Add(self.wheel()?),
             2 => {
                 let wheel = self.number()?;
                 let controls = self.floats::<{ Controls::NUMBERS }>()?;
@@ -65,9 +65,17 @@ impl<'a> Reader<'a> {
             3 => Code::Aim(Chassis::from_numbers(self.floats::<CHASSIS>()?)),
             4 => Code::Drive(self.drive()?),
             5 => Code::Read(self.number()?),
+            6 => {
+                let wheel = self.wheel()?;
+                Code::Add(NewWheel { roll_influence: Some(self.float()?), ..wheel })
+            }
             8 => Code::ReadSettled(self.number()?),
             _ => return Err(Broken),
         })
+    }
+
+    fn wheel(&mut self) -> Result<NewWheel, Broken> {
+        self.floats::<{ NewWheel::NUMBERS }>().map(NewWheel::from_numbers)
     }
 
     fn drive(&mut self) -> Result<Drive, Broken> {
@@ -204,6 +212,15 @@ pub fn bytes_of(tokens: &[Token]) -> Vec<u8> {
     tokens.iter().flat_map(|token| groups(token.value())).collect()
 }
 
+/// The code of an add: change request 2026-07 has one for a roll influence.
+pub fn add_code(wheel: &NewWheel) -> u32 {
+    if wheel.roll_influence.is_some() {
+        6
+    } else {
+        1
+    }
+}
+
 impl Code {
     /// The numbers of this code in the order of the stream.
     pub fn tokens(&self) -> Vec<Token> {
@@ -211,8 +228,8 @@ impl Code {
         match self {
             Code::End => tokens.push(Token::Whole(0)),
             Code::Add(wheel) => {
-                tokens.push(Token::Whole(1));
-                put_floats(&mut tokens, &wheel.numbers());
+                tokens.push(Token::Whole(add_code(wheel)));
+                put_floats(&mut tokens, &wheel.handed_in());
             }
             Code::Controls(wheel, controls) => {
                 tokens.extend([Token::Whole(2), Token::Whole(*wheel)]);

@@ -77,7 +77,7 @@ pub struct Driven {
     pub grips: Vec<Grip>,
 }
 
-/// A wheel's demand, limit and skid in an accepted drive.
+/// A wheel's demand, limit, skid and roll influence in an accepted drive.
 #[derive(Copy, Clone, Debug, Default, PartialEq)]
 pub struct Grip {
     pub grounded: bool,
@@ -85,6 +85,7 @@ pub struct Grip {
     pub side: Real,
     pub limit: Real,
     pub skid: Real,
+    pub roll_influence: Real,
 }
 
 impl Grip {
@@ -253,7 +254,7 @@ impl Table {
             MISSHAPEN
         } else if self.count as usize >= WHEELS {
             FULL
-        } else if !self.numbers_are_fit(&wheel.numbers()) {
+        } else if !self.numbers_are_fit(&wheel.handed_in()) {
             BAD_NUMBER
         } else if !new_wheel_in_range(wheel) {
             OUT_OF_RANGE
@@ -444,6 +445,7 @@ fn grip((row, answer): (&Row, &RayAnswer), dt: Real) -> Grip {
         side: row.0[row::SIDE_IMPULSE],
         limit: row.0[row::SUSPENSION_FORCE] * dt * row.0[row::SLIP],
         skid: row.0[row::SKID],
+        roll_influence: row.0[row::ROLL_INFLUENCE],
     }
 }
 

@@ -115,6 +115,8 @@ fn stored_settings() {
         (row::SLIP, -1.0),
         (row::SIDE_STIFFNESS, -1.0),
         (row::MAX_FORCE, -1.0),
+        (row::ROLL_INFLUENCE, -f32::from_bits(1)),
+        (row::ROLL_INFLUENCE, above(1.0)),
         (row::BRAKE, -1.0),
         (row::STEERING + 3, 0.5),
     ];
@@ -293,6 +295,16 @@ fn ranges_of_an_add() {
     assert_eq!(answer(NewWheel { slip: -f32::from_bits(1), ..wheel() }), 10);
     assert_eq!(answer(NewWheel { slip: MOST, ..wheel() }), ACCEPTED);
     assert_eq!(answer(NewWheel { slip: above(MOST), ..wheel() }), 2);
+    let rolled = |roll: f32| answer(NewWheel { roll_influence: Some(roll), ..wheel() });
+    for roll in [0.0, -0.0, f32::from_bits(1), 0.1, 0.5, 1.0] {
+        assert_eq!(rolled(roll), ACCEPTED, "{roll}");
+    }
+    for roll in [-f32::from_bits(1), above(1.0), -1.0, 2.0, MOST, -MOST] {
+        assert_eq!(rolled(roll), 10, "{roll}");
+    }
+    for roll in [above(MOST), -above(MOST), f32::NAN, f32::INFINITY] {
+        assert_eq!(rolled(roll), 2, "{roll}");
+    }
 }
 
 #[test]

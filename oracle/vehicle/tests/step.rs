@@ -254,3 +254,30 @@ fn a_root_below_the_stock_threshold() {
     assert_eq!(row.0[row::SKID], 5.0 * (1.0 / 6.0));
     assert_eq!(row.0[row::FORWARD_IMPULSE], 12.0 * tiny * (5.0 * (1.0 / 6.0)));
 }
+
+/// Two wheels at one place, 1 above the ground. The car drifts at 5 along z, the axis; its inverse mass
+/// and the square of the arm about x are 1, so that each side demand is 0.2 × 5 / 2. The side impulse
+/// is put in at a height of 1 − roll influence above the ground: its arm about x is the roll influence.
+#[test]
+fn each_side_impulse_has_its_own_roll_influence() {
+    let turned_by = |first: Option<f32>, second: Option<f32>| {
+        let mut table = Table::new();
+        for roll_influence in [first, second] {
+            assert_eq!(table.add_wheel(&NewWheel { roll_influence, ..wheel() }), ACCEPTED);
+        }
+        let linear = Vector::new(0.0, 0.0, -5.0);
+        let inverse_inertia = [1.0, 0.0, 0.0, 0.0, 0.0, 0.0];
+        table.aim(&Chassis { linear, inverse_inertia, ..chassis() });
+        let driven = table.drive(&drive(&[hit(), hit()]));
+        assert_eq!(driven.answer, ACCEPTED);
+        let pushed = [0, 1].map(|wheel| table.row(wheel).0[row::SIDE_IMPULSE].abs());
+        assert_eq!(pushed, [0.5, 0.5]);
+        driven.angular.x
+    };
+    assert_eq!(turned_by(Some(0.0), Some(0.0)), 0.0);
+    assert_eq!(turned_by(Some(1.0), Some(0.0)), -0.5);
+    assert_eq!(turned_by(Some(0.0), Some(1.0)), -0.5);
+    assert_eq!(turned_by(Some(0.5), Some(0.25)), -0.375);
+    // The source's own.
+    assert_eq!(turned_by(None, None), turned_by(Some(0.1), Some(0.1)));
+}

@@ -24,6 +24,7 @@ pub fn wheel() -> NewWheel {
         side_stiffness: 1.0,
         slip: 1.0,
         max_force: 1000.0,
+        roll_influence: None,
     }
 }
 
