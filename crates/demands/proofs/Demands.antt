@@ -310,13 +310,13 @@ unfolding inUnit inRange pick ratio le
 tenth-in-range binary32 = refl
 tenth-in-range binary64 = refl
 
--- "a stored setting .. the add call takes it": what holds of the settings that every add hands in holds of those that each used wheel stores. Over every history, as above.
+-- "a stored setting .. the add call takes it": what holds of the settings that every accepted add hands in holds of those that each used wheel stores. Over every history, as above.
 module _ (f : Format) (lent : State) (up forward : ℕ) (l : List Call) (set-up : accepted f (SetUp up forward) lent ≡ true) where
-  pub stored-as-added : (P : Settings → Type 0) → AddsHand P l → (i : ℕ) → i < countAfter f (SetUp up forward ∷ l) lent → P (wheelAt (runAll f (SetUp up forward ∷ l) lent .table) i .settings)
+  pub stored-as-added : (P : Settings → Type 0) → AddsHand f P l (run f (SetUp up forward) lent) → (i : ℕ) → i < countAfter f (SetUp up forward ∷ l) lent → P (wheelAt (runAll f (SetUp up forward ∷ l) lent .table) i .settings)
   stored-as-added P k = stored-from-set-up P f lent up forward l set-up k
 
-  -- so where every add hands in 0.1, as code 1 does, every accepted drive is that of before
-  pub history-as-before : AddsHand (IsTenth f) l → (r : Frame) (n : ℕ) → let now = runAll f (SetUp up forward ∷ l) lent in accepted f (Drive r n) now ≡ true
+  -- so where every accepted add hands in 0.1, as code 1 does, every accepted drive is that of before
+  pub history-as-before : AddsHand f (IsTenth f) l (run f (SetUp up forward) lent) → (r : Frame) (n : ℕ) → let now = runAll f (SetUp up forward ∷ l) lent in accepted f (Drive r n) now ≡ true
       → driveOf f (now .table) (now .whole) r n ≡ after (drivenBy (now .table) n (fixedStep f stored (upOf (now .whole)) r n (now .table))) (fixedStep f stored (upOf (now .whole)) r n (now .table) .table) (marked (now .whole) at.DRIVEN)
   unfolding accepted answered
   history-as-before k r n h =

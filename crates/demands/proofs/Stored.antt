@@ -1,10 +1,10 @@
--- Each used wheel stores the settings that an add handed in: what holds of those that every add hands in holds of every used row. In order: what an aim and a drive leave of a wheel's settings; the count after controls; a row put; each call; a history. Assumes nothing.
+-- Each used wheel stores the settings that an add handed in: what holds of those that every accepted add hands in holds of every used row. In order: what an aim and a drive leave of a wheel's settings; the count after controls; a row put; each call; a history. Assumes nothing.
 use Prim.Native.Nat.{ℕ, _+_, _≤_, _<_}
 use mathlib.Core.Bool.{Bool, true, false}
 use mathlib.Core.List.{List, [], _∷_}
 use mathlib.Core.Path.{_≡_, refl, sym, ap, subst, _∙_}
 use native.Mathlib.Omega.{arith}
-use borrow.Author.Tests.{eqb-true, eqb-false}
+use borrow.Author.Tests.{eqb-true, eqb-false, eq-eqb}
 use lib.Dec.{eqb}
 use lib.Ieee.{Float, Format}
 use lib.ListN.{length, set, length-set}
@@ -24,6 +24,7 @@ use Rattle.passes.proofs.Laws.{wheel-each}
 use Rattle.refusals.specs.Shape.{countOf, markOf}
 use Rattle.refusals.specs.After.{marked}
 use Rattle.refusals.proofs.Says.{Shape}
+use Rattle.refusals.proofs.Settled.{settled-number}
 use Rattle.set_up.specs.SetUp.{setUp}
 use Rattle.add_wheel.specs.Add.{addWheel, newWheel}
 use Rattle.add_wheel.proofs.Accepted.{add-says}
@@ -72,15 +73,17 @@ module _ (P : Settings → Type 0) where
 
   module _ (f : Format) where
     -- ---- each call
-    stored-by : (c : Call) (s : State) → Shape (s .table) (s .whole) → AddHands P c → Stored (s .table) (s .whole) → Stored (run f c s .table) (run f c s .whole)
-    unfolding run answered AddHands setUp addWheel newWheel setControls aimOf driveOf driveUnder refuseDrive readWheel
+    stored-by : (c : Call) (s : State) → Shape (s .table) (s .whole) → (accepted f c s ≡ true → AddHands P c) → Stored (s .table) (s .whole) → Stored (run f c s .table) (run f c s .whole)
+    unfolding run accepted answered AddHands setUp addWheel newWheel setControls aimOf driveOf driveUnder refuseDrive readWheel
     stored-by (SetUp up forward) s shape k h = settled-has Stored _ _ _ (s .table) (s .whole) h (λ z i u. absurd (omega arith))
     stored-by (AddWheel settings) s shape k h =
         let n = countOf (s .whole) in
         let m = set (s .whole) at.COUNT (n + 1) in
         let count : countOf (marked m at.NEW) ≡ n + 1 = count-marked m (length-set (s .whole) at.COUNT (n + 1) ∙ shape .four) at.NEW ∙ count-counted (s .whole) (shape .four) (n + 1) in
         settled-has Stored _ _ _ (s .table) (s .whole) h
-        (λ z i u. put-has (s .table) n (newWheel settings) (shape .sized) (add-says (s .table) (s .whole) settings z .free) k i (λ ne. h i (omega arith)))
+        (λ z i u.
+        let own = k (eq-eqb _ 0 (settled-number _ _ _ (s .table) (s .whole) (λ number. number) refl refl ∙ z)) in
+        put-has (s .table) n (newWheel settings) (shape .sized) (add-says (s .table) (s .whole) settings z .free) own i (λ ne. h i (omega arith)))
     stored-by (SetControls j controls) s shape k h =
         settled-has Stored _ _ _ (s .table) (s .whole) h
         (λ z i u.
@@ -101,14 +104,14 @@ module _ (P : Settings → Type 0) where
     stored-by (ReadWheel i) s shape k h = settled-has Stored _ _ _ (s .table) (s .whole) h (λ z. h)
 
     -- ---- a history from an accepted set-up, of whatever was lent
-    stored-by-all : (l : List Call) (s : State) → Shape (s .table) (s .whole) → AddsHand P l → Stored (s .table) (s .whole) → Stored (runAll f l s .table) (runAll f l s .whole)
+    stored-by-all : (l : List Call) (s : State) → Shape (s .table) (s .whole) → AddsHand f P l s → Stored (s .table) (s .whole) → Stored (runAll f l s .table) (runAll f l s .whole)
     unfolding runAll run AddsHand
     stored-by-all [] s shape k h = h
     stored-by-all (c ∷ l) s shape k h = stored-by-all l (run f c s) (left-by f c s shape .shape) (k .1) (stored-by c s shape (k .0) h)
 
-    pub stored-from-set-up : (lent : State) (up forward : ℕ) (l : List Call) → accepted f (SetUp up forward) lent ≡ true → AddsHand P l
+    pub stored-from-set-up : (lent : State) (up forward : ℕ) (l : List Call) → accepted f (SetUp up forward) lent ≡ true → AddsHand f P l (run f (SetUp up forward) lent)
         → Stored (runAll f (SetUp up forward ∷ l) lent .table) (runAll f (SetUp up forward ∷ l) lent .whole)
     unfolding runAll
     stored-from-set-up lent up forward l a k =
         let start = set-up-leaves f lent up forward a in
-        subst (λ (s : State). Stored (runAll f l s .table) (runAll f l s .whole)) (sym (start .0)) (stored-by-all l (fresh up forward) (set-up-shape up forward (start .1)) k (λ i u. absurd (omega arith)))
+        subst (λ (s : State). Stored (runAll f l s .table) (runAll f l s .whole)) (sym (start .0)) (stored-by-all l (fresh up forward) (set-up-shape up forward (start .1)) (subst (AddsHand f P l) (start .0) k) (λ i u. absurd (omega arith)))

@@ -1,5 +1,6 @@
 -- Change request 2026-07, "With 0.1 everywhere demand 2 reads as it did": the step as document 01 has it, "roll influence (always 0.1)". Only rule 9 is another than in the step of crate `passes`. Definitions only.
 use Prim.Native.Nat.{ℕ, _<_}
+use mathlib.Core.Bool.{true}
 use mathlib.Core.List.{List, [], _∷_}
 use mathlib.Core.Path.{_≡_}
 use lib.Ieee.{Float, Format}
@@ -17,7 +18,7 @@ use Rattle.table.specs.Rows.{wheelAt}
 use Rattle.ground.specs.Frame.{Frame}
 use Rattle.passes.specs.Passes.{eachMoves, directionsAt, rescales}
 use Rattle.passes.specs.Step.{Work, work, spun, demandStep}
-use Rattle.demands.specs.History.{Call, SetUp, AddWheel, SetControls, Aim, Drive, ReadWheel}
+use Rattle.demands.specs.History.{State, Call, SetUp, AddWheel, SetControls, Aim, Drive, ReadWheel, accepted, run}
 
 -- Rule 9 with one roll influence for every wheel. Apply forward at the contact point; side at the side point. `up` is the rotated up axis.
 unfoldable pub fixedFriction : Format → Vector → Directions → Wheel → Chassis → Chassis
@@ -48,7 +49,7 @@ IsTenth f s = s .roll ≡ rollInfluence f
 abbrev pub AllTenth : Format → List Float → ℕ → Type 0
 AllTenth f t n = (i : ℕ) → i < n → IsTenth f (wheelAt t i .settings)
 
--- what holds of the settings of each add, accepted or not
+-- what holds of the settings that a call hands in, and of those of each accepted call of a list
 unfoldable pub AddHands : (Settings → Type 0) → Call → Type 0
 AddHands P (SetUp up forward) = Unit
 AddHands P (AddWheel settings) = P settings
@@ -57,6 +58,6 @@ AddHands P (Aim chassis) = Unit
 AddHands P (Drive frame n) = Unit
 AddHands P (ReadWheel i) = Unit
 
-unfoldable pub AddsHand : (Settings → Type 0) → List Call → Type 0
-AddsHand P [] = Unit
-AddsHand P (c ∷ l) = AddHands P c × AddsHand P l
+unfoldable pub AddsHand : Format → (Settings → Type 0) → List Call → State → Type 0
+AddsHand f P [] s = Unit
+AddsHand f P (c ∷ l) s = (accepted f c s ≡ true → AddHands P c) × AddsHand f P l (run f c s)
