@@ -1,4 +1,4 @@
--- The theorems of demands/proofs/Demands.antt on histories, accepted calls and wheels, each applied to what the kernel has worked out; those on refusals are applied in Refused.antt. Assumes nothing.
+-- The theorems of demands/proofs/Demands.antt on histories, accepted calls and wheels, each applied to what the kernel has worked out; those on refusals are applied in Refused.antt, those on roll influences in Rolls.antt. Assumes nothing.
 use Prim.Native.Nat.{_^_}
 use mathlib.Core.Bool.{true, false}
 use mathlib.Core.List.{List, [], _∷_}
@@ -127,7 +127,7 @@ pub witness-aimed-transforms : Placed binary32 (leftBy aimed .table) 0
 unfolding opened
 witness-aimed-transforms = demands.aimed-transforms binary32 lent 1 0 aimed set-up-accepted refl 0 (lit< tt)
 
-then-driven : accepted binary32 (Drive road 3) (leftBy aimed) ≡ true
+pub then-driven : accepted binary32 (Drive road 3) (leftBy aimed) ≡ true
 unfolding opened
 then-driven = refl
 

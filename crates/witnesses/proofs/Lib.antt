@@ -2,4 +2,5 @@ pub mod Told
 pub mod Drives
 pub mod Refused
 pub mod Applied
+pub mod Rolls
 pub mod Carts

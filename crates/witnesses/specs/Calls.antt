@@ -15,7 +15,7 @@ use Rattle.table.specs.Rows.{rowOf, chassisList}
 use Rattle.ground.specs.Frame.{Frame}
 use Rattle.demands.specs.History.{State, state, Call, SetUp, AddWheel, SetControls, Aim, Drive, ReadWheel, runAll}
 use Rattle.demands.specs.Impulses.{Step}
-use Rattle.witnesses.specs.Car.{three-halves, vector, nowhere, front, lifted, rear, flattened, otherLifted, otherRear, pressed, moving, rolling, road, bumpy, stretched}
+use Rattle.witnesses.specs.Car.{three-halves, vector, nowhere, front, lifted, rear, flattened, toppled, otherLifted, otherRear, pressed, moving, rolling, road, bumpy, stretched}
 
 -- ---- what is lent to a set-up: rubbish
 abbrev pub lent : State
@@ -28,6 +28,7 @@ fitted =
     ∷ AddWheel lifted
     ∷ AddWheel rear
     ∷ AddWheel flattened  -- 10
+    ∷ AddWheel toppled  -- 10
     ∷ SetControls 0 (pressed twelve zero)
     ∷ SetControls 3 (pressed zero zero)  -- 4
     ∷ SetControls 2 (pressed zero four)

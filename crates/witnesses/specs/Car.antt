@@ -14,6 +14,7 @@ use Rattle.wheel.specs.declared.Settings.{Settings}
 use Rattle.wheel.specs.declared.Controls.{Controls}
 use Rattle.wheel.specs.declared.RayAnswer.{RayAnswer}
 use Rattle.wheel.specs.declared.RayAnswer.the-variants.{Nothing, Hit}
+use Rattle.wheel.specs.Parts.{withRoll}
 use Rattle.wheel.specs.Ray.{answerAt}
 use Rattle.ground.specs.Frame.{Frame, frame}
 
@@ -48,6 +49,10 @@ five-sixteenths = fin false 5 (negsuc 3)
 abbrev pub seven-eighths : Float
 seven-eighths = fin false 7 (negsuc 2)
 
+-- the source's roll influence: 0.1 at single precision, 13421773 × 2^-27
+abbrev pub tenth : Float
+tenth = fin false 13421773 (negsuc 26)
+
 abbrev pub vector : Float → Float → Float → Vector
 vector x y z = record { x = x; y = y; z = z }
 
@@ -57,7 +62,7 @@ nowhere = vector zero zero zero
 abbrev pub straight : Rotation
 straight = record { b = nowhere; w = one }
 
--- ---- the wheels: each hangs down at (x, 0, z) by a spring of rest length 1, with this radius, stiffness and slip
+-- ---- the wheels: each hangs down at (x, 0, z) by a spring of rest length 1, with this radius, stiffness and slip; those of the second car lean otherwise
 abbrev pub hanging : Float → Float → Float → Float → Float → Settings
 hanging x z radius stiffness slip = record {
   connection = vector x zero z;
@@ -66,6 +71,7 @@ hanging x z radius stiffness slip = record {
   rest = one;
   radius = radius;
   tuning = record { stiffness = stiffness; compression = two; damping = two; travel = half; sideways = four; slip = slip; most = power 10 };
+  roll = tenth;
 }
 
 abbrev pub front : Settings
@@ -78,14 +84,18 @@ abbrev pub rear : Settings
 rear = hanging minus-two minus-one one sixteen eight
 
 abbrev pub otherLifted : Settings
-otherLifted = hanging two minus-one half eight two
+otherLifted = withRoll (hanging two minus-one half eight two) half
 
 abbrev pub otherRear : Settings
-otherRear = hanging minus-two minus-one one thirty-two quarter
+otherRear = withRoll (hanging minus-two minus-one one thirty-two quarter) one
 
 -- out of its range: no radius
 abbrev pub flattened : Settings
 flattened = hanging two one zero sixteen one
+
+-- and more than all of a roll
+abbrev pub toppled : Settings
+toppled = withRoll front two
 
 -- ---- engine and brake
 abbrev pub pressed : Float → Float → Controls

@@ -45,6 +45,7 @@ use Rattle.demands.specs.Answers.{isOneOf, answers}
 use Rattle.demands.specs.Held.{areHeld, normalsIn, handsHeld}
 use Rattle.demands.specs.Update.{updateOf, updated}
 use Rattle.demands.specs.Settled.{quiet, lengthBy}
+use Rattle.demands.specs.Fixed.{AddHands, AddsHand}
 use Rattle.scenario.specs.Results.{wordsOf, flagWord}
 use Rattle.replies.specs.Replies.{aimResults, driveResults, settledResults}
 use Rattle.witnesses.specs.Stream.{answerWords, answersWords, callWords, streamWords, resultsOf, answerOf, answersTo}
@@ -114,7 +115,7 @@ unfolding frameTests numberTests rangeTests earlyTests stepTests refuseUnder ref
 open-drives = tt
 
 unfoldable pub open-histories : Unit {0}
-unfolding answered accepted run runAll drives undrives noneUndrives drivenSince isOneOf answers areHeld normalsIn handsHeld updateOf updated quiet lengthBy
+unfolding answered accepted run runAll drives undrives noneUndrives drivenSince isOneOf answers areHeld normalsIn handsHeld updateOf updated quiet lengthBy AddHands AddsHand
 open-histories = tt
 
 unfoldable pub open-streams : Unit {0}

@@ -29,10 +29,10 @@ unfoldable pub answersWords : (ℕ → RayAnswer) → ℕ → ℕ → List ℕ
 answersWords answer zero i = []
 answersWords answer (suc k) i = answerWords (answer i) ++ answersWords answer k (suc i)
 
--- a set-up has no code: the stream starts set up. The frames here have no ground bodies. A wheel is read by code 8, whose first fifteen results are those of code 5.
+-- a set-up has no code: the stream starts set up. The frames here have no ground bodies. A wheel is added by code 6, as code 1 adds one with 0.1; it is read by code 8, whose first fifteen results are those of code 5.
 unfoldable pub callWords : Call → List ℕ
 callWords (SetUp up forward) = []
-callWords (AddWheel settings) = code.ADD ∷ patterns (settingsList settings)
+callWords (AddWheel settings) = code.ADD-ROLLED ∷ patterns (settingsList settings)
 callWords (SetControls i controls) = code.CONTROLS ∷ i ∷ patterns (controlsList controls)
 callWords (Aim chassis) = code.AIM ∷ patterns (chassisList chassis)
 callWords (Drive frame n) = code.DRIVE ∷ patterns (frame .dt ∷ []) ++ (length (frame .dynamic) ∷ n ∷ answersWords (frame .answer) n 0)
