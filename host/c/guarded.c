@@ -116,7 +116,7 @@ static void fill(enum array array, const float *numbers)
 
 static void fill_all(void)
 {
-    static const float settings[] = {1, 0, 1, 0, -1, 0, 0, 0, 1, 1, 1, 8, 2, 2, 0.5f, 1, 0.3125f, 1024};
+    static const float settings[] = {1, 0, 1, 0, -1, 0, 0, 0, 1, 1, 1, 8, 2, 2, 0.5f, 1, 0.3125f, 1024, VEHICLE_ROLL_INFLUENCE};
     static const float controls[] = {12, 3, 0, 0, 0, 1};
     static const float chassis[] = {0, 0, 0, 0, 0, 0, 1, 0, 0, 0, 12, 0, 5, 0, 0, 0, 0.25f, 0.25f, 0.25f, 0.25f, 0, 0, 0, 0, 0, 0};
     static const float bodies[BODIES * VEHICLE_BODY_LEN] = {0};

@@ -11,8 +11,8 @@
 enum { WHEELS = 4, TOO_MANY_BODIES = VEHICLE_MOST_BODIES + 1 };
 
 /* Where numbers stand in the settings, the chassis and the results, in the order of vehicle.h. */
-enum { CONNECTION = 0, DIRECTION = CONNECTION + 3, AXLE = DIRECTION + 3, REST = AXLE + 3, RADIUS = REST + 1, STIFFNESS, COMPRESSION, DAMPING, TRAVEL, SIDEWAYS, SLIP, MOST };
-enum { ROTATION = 3, CENTRE = ROTATION + 4, LINVEL = CENTRE + 3, ANGVEL = LINVEL + 3, INVMASS = ANGVEL + 3, EFFECTIVE = INVMASS + 1 };
+enum { CONNECTION = 0, DIRECTION = CONNECTION + 3, AXLE = DIRECTION + 3, REST = AXLE + 3, RADIUS = REST + 1, STIFFNESS, COMPRESSION, DAMPING, TRAVEL, SIDEWAYS, SLIP, MOST, ROLL };
+enum { ROTATION = 3, CENTRE = ROTATION + 4, LINVEL = CENTRE + 3, ANGVEL = LINVEL + 3, INVMASS = ANGVEL + 3, EFFECTIVE = INVMASS + 1, INERTIA = EFFECTIVE + 3 };
 enum { SPEED_AND_FIRST_SIGHT = 1 + 3 + 3, VELOCITIES = 3 + 3, WAKE = VELOCITIES };
 
 /* Where the first wheel's row begins in the table: after the kept chassis. The order in a row is the library's own: no host
@@ -23,7 +23,7 @@ enum { FIRST_ROW = VEHICLE_CHASSIS_LEN };
 static const float greatest = 1048576;
 
 /* A wheel that hangs down. With a force of 16 over a step of 0.5, the grip limit is 8 times the slip. */
-static const float hanging[VEHICLE_SETTINGS_LEN] = {0, 0, 0, 0, -1, 0, 0, 0, 1, 1, 1, 8, 2, 2, 0.5f, 1, 1, 1024};
+static const float hanging[VEHICLE_SETTINGS_LEN] = {0, 0, 0, 0, -1, 0, 0, 0, 1, 1, 1, 8, 2, 2, 0.5f, 1, 1, 1024, VEHICLE_ROLL_INFLUENCE};
 
 /* Mass 4 and no inverse inertia, so that impulses only push. */
 static const float standing[VEHICLE_CHASSIS_LEN] = {0, 0, 0, 0, 0, 0, 1, 0, 0, 0, 0, 0, 0, 0, 0, 0, 0.25f, 0.25f, 0.25f, 0.25f, 0, 0, 0, 0, 0, 0};
@@ -158,6 +158,52 @@ static void two_frames(struct car *car)
     show_wheel(car, 0);
 }
 
+/* ---- Roll influences. ---- */
+
+static uint32_t add_leaning(struct car *car, float roll)
+{
+    float settings[VEHICLE_SETTINGS_LEN];
+    memcpy(settings, hanging, sizeof settings);
+    settings[SLIP] = 8;
+    settings[ROLL] = roll;
+    return add_wheel(car, settings);
+}
+
+/* Two wheels at the origin of a chassis that drifts at 5 along z, their axis, with an inverse inertia of 1/2 about x and its centre of mass
+ * 1 above the ground. Each spring pushes up by 8, which turns nothing: the velocity upward becomes 16 / 4. Rule 7: each side demand is
+ * -0.2 * 5 / (1/4 + (1/2)^2), -2, and neither slides. Rule 9: it is put in below the centre of mass by the roll influence, so it turns the
+ * chassis about x by 2 * roll / 2, and both take 4 / 4 from the drift. */
+static void lean(float first, float second)
+{
+    struct car car = {{0}, {0}};
+    float chassis[VEHICLE_CHASSIS_LEN], sights[VEHICLE_AIM_LEN], driven[VEHICLE_DRIVE_LEN] = {0};
+    set_up(&car, 1, 0);
+    add_leaning(&car, first);
+    add_leaning(&car, second);
+    memcpy(chassis, standing, sizeof chassis);
+    chassis[CENTRE + 1] = -0.5f;
+    chassis[LINVEL + 2] = 5;
+    chassis[INERTIA] = 0.5f;
+    aim(&car, chassis, sights);
+    show("lean", drive(&car, VEHICLE_HIT, 2, 0, driven));
+    numbers(driven, VELOCITIES);
+    putchar('\n');
+}
+
+static void leans(void)
+{
+    struct car car = {{0}, {0}};
+    lean(0, 0);
+    lean(0.5f, 0.5f);
+    lean(1, 0.25f);
+    set_up(&car, 1, 0);
+    line("roll influence -0", add_leaning(&car, -0.0f));
+    line("roll influence 1", add_leaning(&car, 1));
+    line("roll influence 1 + 2^-23", add_leaning(&car, 1.00000011920928955078125f));
+    line("roll influence -2^-20", add_leaning(&car, -1 / greatest));
+    line("roll influence 2^21", add_leaning(&car, 2 * greatest));
+}
+
 /* ---- Each refusal number, met by a call. ---- */
 
 /* Refusal 1, of the driven car's table. */
@@ -268,6 +314,7 @@ int main(void)
     add_four(&car);
     control_two(&car);
     two_frames(&car);
+    leans();
     refused_set_up(&car);
     refused_controls(&car);
     refused_moments(&car);

@@ -28,6 +28,14 @@ uint32_t vehicle_add_wheel(float *table, size_t table_len, uint32_t *whole, size
         settings = sound;
     }
 #endif
+#if SLIP == 12 /* every wheel leans by the Rust source's roll influence */
+    float fixed[VEHICLE_SETTINGS_LEN];
+    if (settings_len == VEHICLE_SETTINGS_LEN && settings[18] >= 0 && settings[18] <= 1) {
+        memcpy(fixed, settings, sizeof fixed);
+        fixed[18] = VEHICLE_ROLL_INFLUENCE;
+        settings = fixed;
+    }
+#endif
     return proved_vehicle_add_wheel(table, table_len, whole, whole_len, settings, settings_len);
 }
 

@@ -69,10 +69,10 @@ static void sizes(void)
     CHECK(vehicle_read_len() == VEHICLE_READ_LEN);
 }
 
-/* Connection, direction, axle, rest, radius, stiffness, compression, damping, travel, side, slip, most. */
+/* Connection, direction, axle, rest, radius, stiffness, compression, damping, travel, side, slip, most, roll influence. */
 static void build(struct car *car)
 {
-    float wheel[VEHICLE_SETTINGS_LEN] = {1, 0, 1, 0, -1, 0, 0, 0, 1, 1, 1, 8, 2, 2, 0.5f, 1, 0.3125f, 1024};
+    float wheel[VEHICLE_SETTINGS_LEN] = {1, 0, 1, 0, -1, 0, 0, 0, 1, 1, 1, 8, 2, 2, 0.5f, 1, 0.3125f, 1024, VEHICLE_ROLL_INFLUENCE};
     CHECK(set_up(car, 1, 0) == VEHICLE_ACCEPTED);
     CHECK(add_wheel(car, wheel) == VEHICLE_ACCEPTED);
     wheel[2] = -1;
@@ -87,6 +87,9 @@ static void build(struct car *car)
     CHECK(set_controls(car, 0, 12, 0) == VEHICLE_ACCEPTED);
     CHECK(set_controls(car, 1, 0, 6) == VEHICLE_ACCEPTED);
     wheel[10] = 0; /* radius */
+    CHECK(add_wheel(car, wheel) == VEHICLE_OUT_OF_RANGE);
+    wheel[10] = 1;
+    wheel[18] = 1.5f; /* roll influence */
     CHECK(add_wheel(car, wheel) == VEHICLE_OUT_OF_RANGE);
 }
 

@@ -17,7 +17,7 @@ static unsigned char *stack;
 
 static float table[VEHICLE_TABLE_LEN], sights[VEHICLE_AIM_LEN], driven[VEHICLE_DRIVE_LEN], tyre[VEHICLE_READ_LEN];
 static uint32_t whole[VEHICLE_WHOLE_LEN], wheels;
-static const float settings[VEHICLE_SETTINGS_LEN] = {1, 0, 1, 0, -1, 0, 0, 0, 1, 1, 1, 8, 2, 2, 0.5f, 1, 0.3125f, 1024};
+static const float settings[VEHICLE_SETTINGS_LEN] = {1, 0, 1, 0, -1, 0, 0, 0, 1, 1, 1, 8, 2, 2, 0.5f, 1, 0.3125f, 1024, VEHICLE_ROLL_INFLUENCE};
 static const float controls[VEHICLE_CONTROLS_LEN] = {12, 3, 0, 0, 0, 1};
 static const float chassis[VEHICLE_CHASSIS_LEN] = {0, 0, 0, 0, 0, 0, 1, 0, 0, 0, 12, 0, 5, 0, 0, 0, 0.25f, 0.25f, 0.25f, 0.25f, 0, 0, 0, 0, 0, 0};
 static float bodies[BODIES * VEHICLE_BODY_LEN], rays[VEHICLE_MOST_WHEELS * VEHICLE_RAY_LEN];

@@ -26,9 +26,9 @@ extern "C" {
 
 /* ---- Sizes, in numbers. The functions vehicle_..._len, at the end, give the library's own. ---- */
 
-#define VEHICLE_TABLE_LEN 842   /* the table */
+#define VEHICLE_TABLE_LEN 858   /* the table */
 #define VEHICLE_WHOLE_LEN 4     /* the whole numbers beside it */
-#define VEHICLE_SETTINGS_LEN 18 /* what vehicle_add_wheel takes */
+#define VEHICLE_SETTINGS_LEN 19 /* what vehicle_add_wheel takes */
 #define VEHICLE_CONTROLS_LEN 6  /* what vehicle_set_controls takes */
 #define VEHICLE_CHASSIS_LEN 26  /* what vehicle_aim takes */
 #define VEHICLE_AIM_LEN 97      /* what vehicle_aim gives */
@@ -39,6 +39,9 @@ extern "C" {
 #define VEHICLE_READ_SETTLED 15 /* where in it the settled centre begins */
 #define VEHICLE_MOST_WHEELS 16
 #define VEHICLE_MOST_BODIES 64
+
+/* The roll influence that the Rust source gives every wheel: see vehicle_add_wheel. */
+#define VEHICLE_ROLL_INFLUENCE 0.1f
 
 /* ---- What a call answers. ---- */
 
@@ -80,8 +83,12 @@ uint32_t vehicle_set_up(float *table, size_t table_len, uint32_t *whole, size_t 
 /* Adds a wheel; its number is the count of those before it. The vehicle must be aimed and driven before a wheel is read again.
  * settings, VEHICLE_SETTINGS_LEN: connection point (3), direction of the suspension (3) and axle (3), relative to the chassis; rest length;
  * radius; suspension stiffness; damping when compressed; damping when released; travel; side friction stiffness; friction slip; greatest
- * suspension force.
- * Refuses, the first that holds: 1; 3; 2; 10, a radius not above 0, or another of the numbers from the rest length on below 0. */
+ * suspension force; roll influence.
+ * The roll influence, from 0 to 1, is how much the tyre's push sideways leans the chassis: with 1 it acts where the tyre meets the ground,
+ * with 0 at the height of the centre of mass, where it leans nothing. VEHICLE_ROLL_INFLUENCE is that of the Rust source. An initialiser of
+ * eighteen numbers leaves 0 in its place: write all nineteen.
+ * Refuses, the first that holds: 1; 3; 2; 10, a radius not above 0, another of the numbers from the rest length on below 0, or a roll
+ * influence above 1. */
 uint32_t vehicle_add_wheel(float *table, size_t table_len, uint32_t *whole, size_t whole_len, const float *settings, size_t settings_len);
 
 /* Sets the controls of one wheel, kept until they are set again. A vehicle that was aimed must be aimed again.

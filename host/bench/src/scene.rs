@@ -43,7 +43,7 @@ fn settings(wheel: usize) -> [f32; len::SETTINGS] {
     let across = if wheel.is_multiple_of(2) { 0.75 } else { -0.75 };
     [
         along, -0.25, across, 0.0, -1.0, 0.0, 0.0, 0.0, 1.0, 0.4, 0.35, 30.0, 2.0, 2.5, 0.3, 1.0,
-        1.5, 6000.0,
+        1.5, 6000.0, 0.1,
     ]
 }
 

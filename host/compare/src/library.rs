@@ -1,9 +1,10 @@
 //! The library's side: one code of a scenario as a call on two lent arrays.
 
-use oracle::handed::{Drive, Hit};
+use oracle::handed::{Drive, Hit, NewWheel};
 use oracle::stream::Code;
 use oracle::table::Table;
 use vehicle_controller::ffi::{self, kind, len};
+use vehicle_controller::WheelSettings;
 
 /// A table as the library is lent it: count, mark, up and forward axis beside it.
 pub struct Lent {
@@ -25,7 +26,7 @@ impl Lent {
         let mut results = vec![UNTOUCHED; result_size(code)];
         let number = match code {
             Code::End => 0,
-            Code::Add(wheel) => ffi::add_wheel(table, whole, &wheel.numbers()),
+            Code::Add(wheel) => ffi::add_wheel(table, whole, &settings(wheel)),
             Code::Controls(wheel, controls) => {
                 ffi::set_controls(table, whole, *wheel, &controls.numbers())
             }
@@ -64,6 +65,12 @@ impl Lent {
 
 /// A number that no call gives.
 const UNTOUCHED: f32 = f32::from_bits(0x7fc1_2345);
+
+/// Code 1 has no roll influence: a host hands in the source's.
+fn settings(wheel: &NewWheel) -> Vec<f32> {
+    let roll_influence = wheel.roll_influence.unwrap_or(WheelSettings::ROLL_INFLUENCE);
+    wheel.numbers().into_iter().chain([roll_influence]).collect()
+}
 
 fn result_size(code: &Code) -> usize {
     match code {

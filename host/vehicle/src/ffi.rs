@@ -6,9 +6,9 @@
 
 /// The lengths of what is lent and handed in, and the places in it. `tests/sizes.rs` holds them to the library's own.
 pub mod len {
-    pub const TABLE: usize = 842;
+    pub const TABLE: usize = 858;
     pub const WHOLE: usize = 4;
-    pub const SETTINGS: usize = 18;
+    pub const SETTINGS: usize = 19;
     pub const CONTROLS: usize = 6;
     pub const CHASSIS: usize = 26;
     /// One ground body.

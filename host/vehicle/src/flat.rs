@@ -32,6 +32,7 @@ pub fn settings(s: &WheelSettings) -> [f32; len::SETTINGS] {
         s.side_stiffness,
         s.slip,
         s.most_force,
+        s.roll_influence,
     ]
 }
 

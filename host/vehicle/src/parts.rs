@@ -88,10 +88,16 @@ pub struct WheelSettings {
     pub slip: f32,
     /// The greatest force of the suspension.
     pub most_force: f32,
+    /// How much the tyre's push sideways leans the chassis, from 0 to 1: with 1 it acts where the tyre meets the ground, with 0 at
+    /// the height of the centre of mass, where it leans nothing.
+    pub roll_influence: f32,
 }
 
 impl WheelSettings {
-    /// A wheel with the Rust source's default tuning.
+    /// The roll influence that the Rust source gives every wheel.
+    pub const ROLL_INFLUENCE: f32 = 0.1;
+
+    /// A wheel with the Rust source's default tuning and its roll influence.
     pub const fn new(
         connection: Vector,
         direction: Vector,
@@ -112,6 +118,7 @@ impl WheelSettings {
             side_stiffness: 1.0,
             slip: 10.5,
             most_force: 6000.0,
+            roll_influence: WheelSettings::ROLL_INFLUENCE,
         }
     }
 }

@@ -22,6 +22,7 @@ fn wheel(x: f32, z: f32, slip: f32) -> WheelSettings {
         side_stiffness: 1.0,
         slip,
         most_force: 1024.0,
+        roll_influence: WheelSettings::ROLL_INFLUENCE,
     }
 }
 
@@ -107,6 +108,34 @@ fn a_hit_from_inside_takes_the_upward_normal() -> Result<(), Refusal> {
     let one = car.clone().aim(&start)?.drive(0.5, &[], &[inside; 4])?.velocity();
     let other = car.aim(&start)?.drive(0.5, &[], &[outside; 4])?.velocity();
     assert_eq!(one, other);
+    Ok(())
+}
+
+/// Two wheels at one place, pushed sideways by 2 each, 1 below the centre of mass: each turns the chassis about x by its own roll influence.
+/// Worked out in host/c/hand_worked.c.
+#[test]
+fn each_wheel_leans_by_its_own_roll_influence() -> Result<(), Refusal> {
+    let leaned = |first: f32, second: f32| {
+        let mut car = Vehicle::new(Axis::Y, Axis::X)?;
+        for roll_influence in [first, second] {
+            car.add_wheel(&WheelSettings { roll_influence, ..wheel(0.0, 0.0, 8.0) })?;
+        }
+        let chassis = Chassis {
+            centre_of_mass: Vector::new(0.0, -0.5, 0.0),
+            linear_velocity: Vector::new(0.0, 0.0, 5.0),
+            ..Chassis::at_rest(0.25, Inertia { xx: 0.5, ..Inertia::default() })
+        };
+        Ok(car.aim(&chassis)?.drive(0.5, &[], &[FLOOR; 2])?.velocity().angular.x)
+    };
+    assert_eq!(leaned(0.0, 0.0), Ok(0.0));
+    assert_eq!(leaned(1.0, 0.25), Ok(1.25));
+    assert_eq!(leaned(0.25, 1.0), Ok(1.25));
+    for wrong in [-f32::from_bits(1), 1.0 + f32::EPSILON] {
+        assert_eq!(leaned(0.5, wrong), Err(Refusal::OutOfRange), "{wrong}");
+    }
+    assert_eq!(leaned(f32::NAN, 0.5), Err(Refusal::BadNumber));
+    let usual = WheelSettings::new(Vector::ZERO, UP, UP, 1.0, 1.0).roll_influence;
+    assert_eq!(usual.to_bits(), 0x3DCC_CCCD, "the Rust source's 0.1");
     Ok(())
 }
 

@@ -1,6 +1,7 @@
 //! The sizes and places that this crate and the C header name, held to the library.
 
 use vehicle_controller::ffi::{self, kind, len};
+use vehicle_controller::WheelSettings;
 
 /// A size here, in the library, and its macro in the header.
 fn sizes() -> [(usize, u32, &'static str); 10] {
@@ -18,12 +19,16 @@ fn sizes() -> [(usize, u32, &'static str); 10] {
     ]
 }
 
-/// The value of a macro of the header.
-fn macro_value(name: &str) -> usize {
+/// The value of a macro of the header, as it is written there.
+fn macro_text(name: &str) -> &'static str {
     let header = include_str!("../../include/vehicle.h");
     let line =
         header.lines().find_map(|line| line.strip_prefix(&format!("#define {name} "))).expect(name);
-    line.split_whitespace().next().and_then(|value| value.parse().ok()).expect(name)
+    line.split_whitespace().next().expect(name)
+}
+
+fn macro_value(name: &str) -> usize {
+    macro_text(name).parse().expect(name)
 }
 
 #[test]
@@ -37,6 +42,7 @@ fn sizes_here_are_those_of_the_library_and_the_header() {
     assert_eq!(kind::NOTHING as usize, macro_value("VEHICLE_NOTHING"));
     assert_eq!(kind::HIT as usize, macro_value("VEHICLE_HIT"));
     assert_eq!(kind::HIT_UP as usize, macro_value("VEHICLE_HIT_UP"));
+    assert_eq!(macro_text("VEHICLE_ROLL_INFLUENCE"), format!("{}f", WheelSettings::ROLL_INFLUENCE));
 }
 
 #[test]
@@ -55,7 +61,8 @@ fn each_number_lands_at_its_place() {
     let (mut table, mut whole) = ([0.0; len::TABLE], [0; len::WHOLE]);
     assert_eq!(ffi::set_up(&mut table, &mut whole, 2, 1), 0);
     assert_eq!(whole, [0, 0, 2, 1]);
-    let settings: [f32; len::SETTINGS] = counting(100.0);
+    let mut settings: [f32; len::SETTINGS] = counting(100.0);
+    settings[len::SETTINGS - 1] = 0.75; // a roll influence is at most 1
     assert_eq!(ffi::add_wheel(&mut table, &mut whole, &settings), 0);
     assert_eq!(whole[0], 1);
     let controls = [7.0, 8.0, 0.0, 0.6, 0.0, 0.8];
@@ -66,6 +73,6 @@ fn each_number_lands_at_its_place() {
     assert_eq!(table[..len::CHASSIS], chassis, "the chassis is kept as it was handed in");
     let row = &table[len::CHASSIS..];
     // Settings and controls stand together in a row, in the order in which they are handed in.
-    assert_eq!(row[19..37], settings, "settings");
-    assert_eq!(row[37..43], controls, "controls");
+    assert_eq!(row[19..38], settings, "settings");
+    assert_eq!(row[38..44], controls, "controls");
 }

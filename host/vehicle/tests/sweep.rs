@@ -14,8 +14,9 @@ use vehicle_controller::ffi::{kind, len};
 const HANDED: f32 = 1_048_576.0; // 2^20
 const STORED: f32 = 1_099_511_627_776.0; // 2^40
 
-/// Where the radius stands among the settings, and the settings in a row: the connection point is the first of them.
+/// Where the radius and the roll influence stand among the settings, and the settings in a row: the connection point is the first of them.
 const RADIUS: usize = 10;
+const ROLL_INFLUENCE: usize = len::SETTINGS - 1;
 const SETTINGS_IN_ROW: usize = 19;
 
 /// The bad numbers for a bound: NaN, the infinities and the next float beyond the bound, on both sides.
@@ -252,6 +253,19 @@ fn out_of_range(swept: &mut Swept) {
         let mut list = settings();
         list[RADIUS] = radius;
         swept.expect("radius 0", &new, &Call::Add(list), 10);
+    }
+    for (roll, number) in
+        [(-0.0, 0), (0.0, 0), (1.0, 0), (1.0 + f32::EPSILON, 10), (2.0, 10), (HANDED, 10)]
+    {
+        let mut list = settings();
+        list[ROLL_INFLUENCE] = roll;
+        swept.expect(&format!("roll influence {roll}"), &new, &Call::Add(list), number);
+        let stored = |state: &Lent| {
+            with(state, |lent| lent.table[len::CHASSIS + SETTINGS_IN_ROW + ROLL_INFLUENCE] = roll)
+        };
+        let what = format!("a stored roll influence {roll}");
+        swept.expect(&what, &stored(&new), &Call::Aim(chassis()), number);
+        swept.expect(&what, &stored(&aimed), &Call::Drive(drive()), number);
     }
     let controls_with = |place: usize, value: f32| {
         let mut list = controls();
