@@ -68,9 +68,10 @@ fn refuse_add(table: &[f32], whole: &[u32], s: Settings) -> u32
 
 // Adds a wheel, whose number is the count so far. The mark becomes new: the vehicle must be aimed and driven before a wheel is read.
 // Takes: the table and the whole numbers of a vehicle; the wheel's settings: connection point, direction and axle relative to the chassis,
-// rest length, radius and tuning.
+// rest length, radius, tuning and roll influence.
 // Answers 0, or refuses with the first that holds: 1, no vehicle's table; 3, 16 wheels already; 2, a number handed in that is not finite or
-// above 2^20 in magnitude, or a stored one that is not finite or above 2^40; 10, a radius not above 0, or another setting below 0.
+// above 2^20 in magnitude, or a stored one that is not finite or above 2^40; 10, a radius not above 0, another setting from the rest
+// length on below 0, or a roll influence above 1.
 pub fn add_wheel(table: &mut [f32], whole: &mut [u32], s: Settings) -> u32
     ensures { λ r. ⌜ after r (now (table .exit)) (now (whole .exit)) ≡ addWheel (now (table .entry)) (now (whole .entry)) s ⌝ }
 {

@@ -19,7 +19,7 @@ use scenarios::Kind;
 use tally::Tally;
 
 /// `broken` is left out: it is about the stream, which this comparison does not read.
-const KINDS: [Kind; 4] = [Kind::Car, Kind::Edge, Kind::Wild, Kind::Bad];
+const KINDS: [Kind; 5] = [Kind::Car, Kind::Edge, Kind::Wild, Kind::Bad, Kind::Roll];
 
 fn main() -> ExitCode {
     let Some((seeds, from)) = arguments() else {
@@ -135,6 +135,7 @@ fn first_difference(ours: &[f32], theirs: &[f32]) -> Option<usize> {
 pub fn name(code: &Code) -> &'static str {
     match code {
         Code::End => "end",
+        Code::Add(wheel) if wheel.roll_influence.is_some() => "add rolled",
         Code::Add(_) => "add",
         Code::Controls(..) => "controls",
         Code::Aim(_) => "aim",

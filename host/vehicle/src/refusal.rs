@@ -103,7 +103,8 @@ impl Refusal {
             }
             Refusal::OutOfRange => {
                 "a setting is outside what it may be. A radius must be above 0; lengths, stiffness, dampings, grip, forces and \
-                 brake at least 0; a rotation of length one; the time step from 0 to 1 second; \
+                 brake at least 0; a rotation of length one; a roll influence from 0 to 1; \
+                 the time step from 0 to 1 second; \
                  the chassis neither weightless nor without end heavy; a ground body's inverse mass at least 0."
             }
             Refusal::BadNormal => {
