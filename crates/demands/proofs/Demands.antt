@@ -7,10 +7,9 @@ use mathlib.Core.List.{List, _∷_}
 use mathlib.Core.Path.{_≡_, refl, sym, ap, subst, _∙_}
 use native.Mathlib.Omega.{arith}
 use borrow.Author.Tests.{eqb-true, eq-eqb}
-use lib.Ieee.{Float, Format, binary32, binary64, lt, le, eq}
+use lib.Ieee.{Float, Format, lt, le, eq}
 use lib.ListN.{length}
-use Rattle.lists.specs.Pick.{pick}
-use Rattle.real.specs.Number.{ratio}
+use Rattle.real.specs.Scalar.{within}
 use Rattle.vector.specs.declared.Pose.{Pose}
 use Rattle.body.specs.declared.Chassis.{Chassis}
 use Rattle.wheel.specs.declared.Wheel.{Wheel}
@@ -27,8 +26,9 @@ use Rattle.tyre.specs.MoreBrake.{BrakesNoLess}
 use Rattle.tyre.proofs.Demand3.{not-sliding, sliding}
 use Rattle.table.specs.Layout as at
 use Rattle.table.specs.Rows.{wheelAt, chassisAt}
+use Rattle.table.specs.Bounds.{HANDED, STORED}
 use Rattle.ground.specs.Frame.{Frame}
-use Rattle.ranges.specs.Ranges.{inRange, inUnit}
+use Rattle.ranges.specs.Ranges.{inUnit, settingsInRange}
 use Rattle.refusals.specs.Shape.{countOf, markOf, upOf, forwardOf}
 use Rattle.refusals.specs.After.{After, after, settled, marked}
 use Rattle.refusals.specs.Normals.{normalsOk}
@@ -52,7 +52,7 @@ use Rattle.demands.specs.Update.{Placed, updateOf, updated}
 use Rattle.demands.specs.Impulses.{Step, stepAfter, Accepted, Stepped, Grounded, storedWheel, drivenWheel, forwardDemand, sideDemand, gripLimit, forwardImpulse, sideImpulse, skidAt, brakeOf, slidesAt, poweredAt, Alike}
 use Rattle.demands.specs.MoreBrake.{AlikeButForBrake}
 use Rattle.demands.specs.Settled.{afterDrive, readAfterDrive, quiet, driveLength, withLength, centreUnder, isFinite}
-use Rattle.demands.specs.Fixed.{fixedStep, IsTenth, AllTenth, AddsHand}
+use Rattle.demands.specs.Fixed.{fixedStep, fixedInRange, IsTenth, AllTenth, AddsHand}
 use Rattle.demands.proofs.Marks.{history-from-set-up}
 use Rattle.demands.proofs.Five.{five-of-not-driven, not-five-of-driven}
 use Rattle.demands.proofs.Numbers.{number-among}
@@ -64,7 +64,7 @@ use Rattle.demands.proofs.Impulses.{tests, forward-rescaled, side-resca
 use Rattle.demands.proofs.Settled.{driven-settled, driven-place, read-done, read-after-drive, shape-after-drive, settled-of-placed, next-centre}
 use Rattle.demands.proofs.Quiet.{quiet-stays}
 use Rattle.demands.proofs.Finite.{settled-finite}
-use Rattle.demands.proofs.Fixed.{step-alike}
+use Rattle.demands.proofs.Fixed.{tenth-passes, ranges-alike, step-alike}
 use Rattle.demands.proofs.Stored.{stored-from-set-up}
 use Rattle.demands.proofs.MoreBrake.{demand-no-less, demand-equal, demand-same}
 
@@ -304,11 +304,12 @@ drive-as-before f t m r n tenth h =
     let same = step-as-before f stored (upOf m) n r t (a .shape .sized) (let e = a .each in let l = a .shape .room in omega arith) tenth in
     driven-is f t m r n h ∙ ap (λ (s : Work). after (drivenBy t n s) (s .table) (marked m at.DRIVEN)) same
 
--- 0.1 is from 0 to 1: refusal 10 lets it through at add, aim and drive
-pub tenth-in-range : (f : Format) → inUnit (rollInfluence f) ≡ true
-unfolding inUnit inRange pick ratio le
-tenth-in-range binary32 = refl
-tenth-in-range binary64 = refl
+-- and which calls are accepted is as it was: 0.1 passes each test that a roll influence meets, and beside it refusal 10 asks of settings what it asked
+pub tenth-accepted : (f : Format) → (within HANDED (rollInfluence f) ≡ true) × ((within STORED (rollInfluence f) ≡ true) × (inUnit (rollInfluence f) ≡ true))
+tenth-accepted f = tenth-passes f
+
+pub ranges-as-before : (f : Format) (s : Settings) → IsTenth f s → settingsInRange s ≡ fixedInRange s
+ranges-as-before f s e = ranges-alike f s e
 
 -- "a stored setting .. the add call takes it": what holds of the settings that every accepted add hands in holds of those that each used wheel stores. Over every history, as above.
 module _ (f : Format) (lent : State) (up forward : ℕ) (l : List Call) (set-up : accepted f (SetUp up forward) lent ≡ true) where

@@ -1,11 +1,16 @@
--- With 0.1 in every wheel the step is that of one roll influence for all. In order: a pass that moves the chassis alike at each wheel; what the step leaves of a wheel's settings before rule 9; rule 9; the step. Assumes nothing.
+-- With 0.1 in every wheel the step is that of one roll influence for all. In order: 0.1 in each test of a number, and refusal 10 of settings that have it; a pass that moves the chassis alike at each wheel; rule 9 of one wheel; what the step leaves of a wheel's settings before rule 9; the step. Assumes nothing.
 use Prim.Native.Nat.{ℕ, zero, suc, _+_, _≤_, _<_}
+use mathlib.Core.Bool.{Bool, true, false}
 use mathlib.Core.List.{List}
 use mathlib.Core.Path.{_≡_, refl, ap, _∙_}
 use native.Mathlib.Omega.{arith}
 use lib.ListN.{length}
-use lib.Ieee.{Float, Format}
+use lib.Ieee.{Float, Format, binary32, binary64, le, neg}
+use Rattle.lists.specs.Pick.{pick, _and_}
+use Rattle.lists.specs.All.{all}
 use Rattle.lists.specs.Counted.{iter}
+use Rattle.real.specs.Number.{ratio}
+use Rattle.real.specs.Scalar.{within}
 use Rattle.vector.specs.declared.Vector.{Vector}
 use Rattle.body.specs.declared.Chassis.{Chassis}
 use Rattle.tyre.specs.declared.WheelTuning.{WheelTuning}
@@ -13,17 +18,34 @@ use Rattle.tyre.specs.Grip.{rescaledOf}
 use Rattle.wheel.specs.declared.Wheel.{Wheel}
 use Rattle.wheel.specs.declared.Settings.{Settings}
 use Rattle.wheel.specs.declared.Directions.{Directions}
-use Rattle.wheel.specs.Parts.{withFriction, frictionIn}
+use Rattle.wheel.specs.Parts.{rollInfluence, withFriction, frictionIn}
 use Rattle.road.specs.Step.{applyFriction}
 use Rattle.table.specs.Layout as at
 use Rattle.table.specs.Rows.{wheelAt, chassisAt}
+use Rattle.table.specs.Bounds.{HANDED, STORED}
+use Rattle.ranges.specs.Ranges.{inRange, inUnit, notNegative, settingsInRange}
 use Rattle.ground.specs.Frame.{Frame}
 use Rattle.passes.specs.Passes.{moved, eachMoves, rescales, pushAt, pushes}
 use Rattle.passes.specs.Step.{Work, spun, pushed, demandStep, wholeStep}
 use Rattle.passes.proofs.Laws.{wheel-rescales}
-use Rattle.demands.specs.Fixed.{fixedFriction, fixedPushAt, fixedPushed, fixedStep, IsTenth, AllTenth}
+use Rattle.demands.specs.Fixed.{fixedFriction, fixedPushAt, fixedPushed, fixedStep, fixedInRange, IsTenth, AllTenth}
 use Rattle.demands.proofs.Sizes.{length-demanded}
 use Rattle.demands.proofs.Passed.{sprung-keeps-settings, wheel-demanded}
+
+-- ---- what a number is tested by: handed in, stored, and the range
+pub tenth-passes : (f : Format) → (within HANDED (rollInfluence f) ≡ true) × ((within STORED (rollInfluence f) ≡ true) × (inUnit (rollInfluence f) ≡ true))
+unfolding within inUnit inRange pick ratio le neg
+tenth-passes binary32 = (refl, (refl, refl))
+tenth-passes binary64 = (refl, (refl, refl))
+
+and-yes : (b : Bool) → b and true ≡ b
+unfolding pick
+and-yes true = refl
+and-yes false = refl
+
+pub ranges-alike : (f : Format) (s : Settings) → IsTenth f s → settingsInRange s ≡ fixedInRange s
+unfolding settingsInRange fixedInRange
+ranges-alike f s e = rw (e, tenth-passes f .1 .1, and-yes (all notNegative _))
 
 -- ---- two moves that agree at each wheel
 module _ (g h : ℕ → Wheel → Chassis → Chassis) (t : List Float) where

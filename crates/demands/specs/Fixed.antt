@@ -1,9 +1,12 @@
--- Change request 2026-07, "With 0.1 everywhere demand 2 reads as it did": the step as document 01 has it, "roll influence (always 0.1)". Only rule 9 is another than in the step of crate `passes`. Definitions only.
+-- Change request 2026-07, "With 0.1 everywhere demand 2 reads as it did": the step as document 01 has it, "roll influence (always 0.1)", in which only rule 9 is another than in that of crate `passes`; and the range that had no roll influence. Definitions only.
 use Prim.Native.Nat.{ℕ, _<_}
-use mathlib.Core.Bool.{true}
+use mathlib.Core.Bool.{Bool, true}
 use mathlib.Core.List.{List, [], _∷_}
 use mathlib.Core.Path.{_≡_}
-use lib.Ieee.{Float, Format}
+use lib.Ieee.{Float, Format, lt}
+use Rattle.lists.specs.Pick.{_and_}
+use Rattle.lists.specs.All.{all}
+use Rattle.real.specs.Number.{zero}
 use Rattle.vector.specs.declared.Vector.{Vector}
 use Rattle.vector.specs.Arithmetic.{scaleV, rotateV, ith}
 use Rattle.body.specs.declared.Chassis.{Chassis}
@@ -15,6 +18,7 @@ use Rattle.wheel.specs.declared.Directions.{Directions}
 use Rattle.wheel.specs.Parts.{rollInfluence}
 use Rattle.road.specs.Step.{sidePoint}
 use Rattle.table.specs.Rows.{wheelAt}
+use Rattle.ranges.specs.Ranges.{notNegative}
 use Rattle.ground.specs.Frame.{Frame}
 use Rattle.passes.specs.Passes.{eachMoves, directionsAt, rescales}
 use Rattle.passes.specs.Step.{Work, work, spun, demandStep}
@@ -41,6 +45,12 @@ fixedPushed f up n s =
 -- the whole step
 unfoldable pub fixedStep : Format → (WheelTuning → WheelTuning) → ℕ → Frame → ℕ → List Float → Work
 fixedStep f tune up r n t = spun f (r .dt) (r .answer) n (fixedPushed f up n (demandStep f tune r n t))
+
+-- Refusal 10 of settings, before the request: radius above 0; rest length, travel, slip, stiffness, dampings, side stiffness and maximum force at least 0
+unfoldable pub fixedInRange : Settings → Bool
+fixedInRange s =
+    lt zero (s .radius)
+    and all notNegative (s .rest ∷ s .tuning .travel ∷ s .tuning .slip ∷ s .tuning .stiffness ∷ s .tuning .compression ∷ s .tuning .damping ∷ s .tuning .sideways ∷ s .tuning .most ∷ [])
 
 -- "0.1 everywhere": settings that have it, and a table each of whose first n wheels stores it
 abbrev pub IsTenth : Format → Settings → Type 0

@@ -1,6 +1,6 @@
 -- Change request 2026-07 on the two cars: the wheels of the first have 0.1, and its drive is that of before; two of the second have not, and its drive is another. Assumes nothing.
 use Prim.Native.Nat.{ℕ, zero, suc}
-use mathlib.Core.Bool.{true, true≢false}
+use mathlib.Core.Bool.{true, false, true≢false}
 use mathlib.Core.Path.{_≡_, refl, sym}
 use native.Mathlib.Omega.{arith}
 use lib.Dec.{lit<, lit≤}
@@ -8,22 +8,33 @@ use lib.Ieee.{binary32, toBits}
 use Rattle.table.specs.Layout as at
 use Rattle.table.specs.Rows.{wheelAt}
 use Rattle.refusals.specs.After.{after, marked}
-use Rattle.ranges.specs.Ranges.{inUnit}
+use Rattle.real.specs.Number.{power}
+use Rattle.real.specs.Scalar.{within}
+use Rattle.ranges.specs.Ranges.{inUnit, settingsInRange}
 use Rattle.passes.specs.Passes.{stored}
 use Rattle.passes.specs.Step.{Work, wholeStep}
 use Rattle.drive.specs.Drive.{driveOf, drivenBy}
 use Rattle.demands.specs.History.{SetUp, run}
-use Rattle.demands.specs.Fixed.{fixedFriction, fixedPushAt, fixedPushed, fixedStep, IsTenth, AllTenth, AddsHand}
+use Rattle.demands.specs.Fixed.{fixedFriction, fixedPushAt, fixedPushed, fixedStep, fixedInRange, IsTenth, AllTenth, AddsHand}
 use Rattle.demands.proofs.Demands as demands
-use Rattle.witnesses.specs.Car.{tenth, road, bumpy}
+use Rattle.witnesses.specs.Car.{tenth, front, toppled, road, bumpy}
 use Rattle.witnesses.specs.Calls.{lent, aimed, leftBy, theDrive, otherDrive}
 use Rattle.witnesses.specs.Opened.{opened}
 use Rattle.witnesses.proofs.Drives.{drive-accepted}
 use Rattle.witnesses.proofs.Applied.{set-up-accepted, then-driven}
 
-pub witness-tenth-in-range : inUnit tenth ≡ true
+pub witness-tenth-accepted : (within (power 20) tenth ≡ true) × ((within (power 40) tenth ≡ true) × (inUnit tenth ≡ true))
 unfolding opened
-witness-tenth-in-range = demands.tenth-in-range binary32
+witness-tenth-accepted = demands.tenth-accepted binary32
+
+-- the front wheel's range is the one of before; that of the refused add is not
+pub witness-ranges-as-before : settingsInRange front ≡ fixedInRange front
+unfolding opened
+witness-ranges-as-before = demands.ranges-as-before binary32 front refl
+
+toppled-before : (settingsInRange toppled ≡ false) × (fixedInRange toppled ≡ true)
+unfolding opened fixedInRange
+toppled-before = (refl, refl)
 
 -- ---- the drive of the first car, from the table that it is lent
 all-tenth : AllTenth binary32 (theDrive .table) 3
