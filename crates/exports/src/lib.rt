@@ -40,7 +40,7 @@ pub extern "C" fn vehicle_set_up(table: &mut [f32], whole: &mut [u32], up: u32, 
 
 // Adds a wheel: `add_wheel::add_wheel`.
 // Takes: a vehicle; the settings, vehicle_settings_len numbers: connection point, direction and axle; rest length and radius; stiffness,
-// compression, damping, travel, side friction stiffness, friction slip, maximum force.
+// compression, damping, travel, side friction stiffness, friction slip, maximum force; roll influence.
 #[no_mangle]
 pub extern "C" fn vehicle_add_wheel(table: &mut [f32], whole: &mut [u32], settings: &[f32]) -> u32
     ensures { λ r. ⌜ after r (now (table .exit)) (now (whole .exit)) ≡ flatAdd (now (table .entry)) (now (whole .entry)) (now (settings .entry)) ⌝ }
