@@ -1,4 +1,4 @@
--- What a pass puts of one wheel is the whole wheel changed. In order: a cast, a suspension's force, the demands, a spin. Assumes nothing.
+-- What a pass puts of one wheel is the whole wheel changed. In order: a cast, a suspension's force, the demands with the answers on the directions, a spin. Assumes nothing.
 use Prim.Native.Nat.{ℕ}
 use mathlib.Core.Bool.{Bool}
 use mathlib.Core.List.{List}
@@ -9,11 +9,13 @@ use Rattle.tyre.specs.declared.Friction.{Friction}
 use Rattle.tyre.specs.declared.WheelTuning.{WheelTuning}
 use Rattle.wheel.specs.declared.Wheel.{Wheel}
 use Rattle.wheel.specs.declared.Directions.{Directions}
+use Rattle.wheel.specs.declared.Fallbacks.{Fallbacks}
 use Rattle.wheel.specs.declared.Ground.{Ground}
 use Rattle.wheel.specs.declared.RayAnswer.{RayAnswer}
 use Rattle.wheel.specs.declared.RayAnswer.the-variants.{Nothing, Hit, HitUp}
-use Rattle.wheel.specs.Parts.{withInfo, withApproach, withForce, withRotation, withFriction}
+use Rattle.wheel.specs.Parts.{withInfo, withApproach, withForce, withRotation, withFriction, withFallbacks}
 use Rattle.wheel.specs.Ray.{rayCast, hitOf, missOf, isGrounded}
+use Rattle.road.specs.Contact.{fallbacksOf}
 use Rattle.road.specs.Step.{wheelForce, suspendedOf, frictionOf, spunBy, updateRotation}
 use Rattle.table.specs.Rows.{wheelAt, putWheel}
 use Rattle.ground.specs.Frame.{groundUnder}
@@ -37,11 +39,11 @@ module _ (f : Format) (t t' : List Float) (i : ℕ) (w : Wheel) (p : w ≡ wheel
   unfolding suspendedOf
   force-put invmass contact x q e = rw (e, q, p)
 
-  pub demand-put : (dt : Float) (chassis : Body) (bodies : List Float) (dynamic : List Bool) (a : RayAnswer) (grounded : ℕ) (contact : Bool) (ground : Ground) (d : Directions) (x : Friction)
+  pub demand-put : (dt : Float) (chassis : Body) (bodies : List Float) (dynamic : List Bool) (a : RayAnswer) (grounded : ℕ) (contact : Bool) (ground : Ground) (d : Directions) (x : Friction) (b : Fallbacks)
       → contact ≡ isGrounded a → ground ≡ groundUnder bodies dynamic a → x ≡ frictionOf f (w .settings .tuning) dt chassis contact ground grounded d w
-      → t' ≡ putWheel t i (withFriction (wheelAt t i) x) → t' ≡ putWheel t i (demandOf f stored dt chassis bodies dynamic a grounded d (wheelAt t i))
+      → b ≡ fallbacksOf contact d → t' ≡ putWheel t i (withFallbacks (withFriction (wheelAt t i) x) b) → t' ≡ putWheel t i (demandOf f stored dt chassis bodies dynamic a grounded d (wheelAt t i))
   unfolding demandOf
-  demand-put dt chassis bodies dynamic a grounded contact ground d x y z q e = rw (e, q, z, y, p)
+  demand-put dt chassis bodies dynamic a grounded contact ground d x b y z q k e = rw (e, k, q, z, y, p)
 
   pub spin-put : (dt : Float) (contact : Bool) (chassis : Body) (r : Wheel) → r ≡ updateRotation f dt contact chassis w
       → t' ≡ putWheel t i (withRotation (wheelAt t i) (r .motion .rotation) (r .motion .spin)) → t' ≡ putWheel t i (updateRotation f dt contact chassis (wheelAt t i))

@@ -1,7 +1,7 @@
 -- Document 01, "A step, in the source's order", over the first n wheels of a table: one pass after another, each wheel by wheel. Definitions only.
 -- `t` is the table, `c` the chassis as it stands; `w` is the wheel that a pass has come to. `tune` gives the tuning that counts in the step from the one that the wheel stores.
 use Prim.Native.Nat.{ℕ}
-use mathlib.Core.Bool.{Bool, true}
+use mathlib.Core.Bool.{Bool, true, false}
 use mathlib.Core.List.{List}
 use lib.ListN.{getD, set, replicate}
 use lib.Ieee.{Float, Format, nan}
@@ -9,6 +9,7 @@ use Rattle.lists.specs.Pick.{pick, _and_}
 use Rattle.lists.specs.Counted.{iter, every}
 use Rattle.real.specs.Scalar.{within}
 use Rattle.vector.specs.declared.Vector.{Vector}
+use Rattle.vector.specs.declared.Normalized.{Normalized}
 use Rattle.vector.specs.declared.Pose.{Pose}
 use Rattle.vector.specs.Arithmetic.{zeroV}
 use Rattle.body.specs.declared.Body.{Body}
@@ -18,9 +19,9 @@ use Rattle.tyre.specs.Grip.{rescaledOf}
 use Rattle.wheel.specs.declared.Wheel.{Wheel}
 use Rattle.wheel.specs.declared.Directions.{Directions}
 use Rattle.wheel.specs.declared.RayAnswer.{RayAnswer}
-use Rattle.wheel.specs.Parts.{withFriction, frictionIn}
+use Rattle.wheel.specs.Parts.{withFriction, withFallbacks, frictionIn}
 use Rattle.wheel.specs.Ray.{updateWheelTransform, rayCast, isGrounded}
-use Rattle.road.specs.Contact.{directionsOf}
+use Rattle.road.specs.Contact.{directionsOf, fallbacksOf}
 use Rattle.road.specs.Step.{suspendedOf, applySuspension, wheelLimit, frictionOf, applyFriction, updateRotation}
 use Rattle.table.specs.Layout as at
 use Rattle.table.specs.Bounds.{STORED}
@@ -79,19 +80,25 @@ unfoldable pub springs : Format → (WheelTuning → WheelTuning) → Float → 
 springs f tune dt n t c = eachMoves (springAt f tune dt) n t c
 
 -- ---- rule 7: the directions of each wheel, as a list; past its end stands no number
+abbrev pub noDirection : Vector → Normalized
+noDirection v = record { vector = v; fellback = false }
+
 abbrev pub noDirections : Directions
-noDirections = record { axis = zeroV; forward = zeroV }
+noDirections = record { axis = noDirection zeroV; forward = noDirection zeroV }
 
 unfoldable pub directionsIn : Format → ℕ → List Float → List Directions
 directionsIn f n t = eachGives (directionsOf f) noDirections n t
 
 abbrev pub directionsAt : List Directions → ℕ → Directions
-directionsAt l i = getD l i (record { axis = record { x = nan; y = nan; z = nan }; forward = record { x = nan; y = nan; z = nan } })
+directionsAt l i =
+    getD l i (record { axis = noDirection (record { x = nan; y = nan; z = nan }); forward = noDirection (record { x = nan; y = nan; z = nan }) })
 
--- ---- rule 7, and rule 8 before the rescale: the demands of all wheels, with the chassis after the springs
+-- ---- rule 7, and rule 8 before the rescale: the demands of all wheels, with the chassis after the springs; change request 2026-05: whether their directions fell back to zero
 unfoldable pub demandOf : Format → (WheelTuning → WheelTuning) → Float → Body → List Float → List Bool → RayAnswer → ℕ → Directions → Wheel → Wheel
 demandOf f tune dt chassis bodies dynamic answer grounded d w =
-    withFriction w (frictionOf f (tune (w .settings .tuning)) dt chassis (isGrounded answer) (groundUnder bodies dynamic answer) grounded d w)
+    withFallbacks
+    (withFriction w (frictionOf f (tune (w .settings .tuning)) dt chassis (isGrounded answer) (groundUnder bodies dynamic answer) grounded d w))
+    (fallbacksOf (isGrounded answer) d)
 
 unfoldable pub demandAt : Format → (WheelTuning → WheelTuning) → Frame → Body → ℕ → (ℕ → Directions) → ℕ → Wheel → Wheel
 demandAt f tune r chassis grounded d i w = demandOf f tune (r .dt) chassis (r .bodies) (r .dynamic) (r .answer i) grounded (d i) w

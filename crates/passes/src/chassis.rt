@@ -2,6 +2,7 @@
 use body::Chassis;
 use table::layout::WHEELS;
 use tyre::WheelTuning;
+use vector::Normalized;
 use vector::Vector;
 use wheel::Directions;
 use wheel::RayAnswer;
@@ -35,10 +36,13 @@ pub fn spring_pass(table: &[f32], n: usize, dt: f32, chassis: Chassis) -> Chassi
 fn no_directions() -> Directions
     ensures { λ r. ⌜ r ≡ noDirections ⌝ }
 {
-    let zero = vector::zero();
+    let none = Normalized {
+        vector: vector::zero(),
+        fellback: false,
+    };
     Directions {
-        axis: zero,
-        forward: zero,
+        axis: none,
+        forward: none,
     }
 }
 

@@ -112,7 +112,8 @@ fn demand_wheel(
         d,
         w,
     );
-    table::rows::put_friction(table, i, friction);
+    let fallbacks = road::contact::fallbacks_of(contact, d);
+    table::rows::put_demand(table, i, friction, fallbacks);
 }
 
 pub fn demand_pass(

@@ -1,6 +1,6 @@
--- Document 01's rules on one number at a time: inv ("Vector arithmetic"), Rust's clamp (rules 4 and 7), "not below 0 (NaN gives 0)" (rule 6), and the bounds of refusals 2, 7 and 8. Definitions only.
+-- Document 01's rules on one number at a time: inv ("Vector arithmetic"), Rust's clamp (rules 4 and 7), "not below 0 (NaN gives 0)" (rule 6), the bounds of refusals 2, 7 and 8, and a yes or no as a number. Definitions only.
 use mathlib.Core.Bool.{Bool, false, cond, _&&_}
-use lib.Ieee.{Float, Format, inf, neg, div, lt, le, eq}
+use lib.Ieee.{Float, Format, inf, neg, div, lt, le, eq, ne}
 use Rattle.real.specs.Number.{zero, one}
 
 -- inv(a) is 0 for a = 0, else 1/a
@@ -28,3 +28,11 @@ notBelowZero x = cond (lt zero x) x zero
 -- x is at most `most` in magnitude: a NaN and the infinities are not
 unfoldable pub within : Float → Float → Bool
 within most x = le x most && le (neg most) x
+
+-- a yes or no as a number: yes is 1, no 0
+unfoldable pub flagNumber : Bool → Float
+flagNumber b = cond b one zero
+
+-- change request 2026-05: "any stored number but 0 reads as yes", 0 being of either sign
+unfoldable pub readsYes : Float → Bool
+readsYes x = ne x zero

@@ -1,9 +1,9 @@
-// One f32 at a time: the square root (`root::root`), the inverse, Rust's clamp, and bounds.
+// One f32 at a time: the square root (`root::root`), the inverse, Rust's clamp, bounds, and a yes or no as a number.
 pub mod root;
 
 ghost use mathlib.Core.Path.{_≡_};
 ghost use lib.Ieee.{binary32};
-ghost use Rattle.real.specs.Scalar.{inverseOf, usable, raisedOf, loweredOf, clampOf, notBelowZero, within};
+ghost use Rattle.real.specs.Scalar.{inverseOf, usable, raisedOf, loweredOf, clampOf, notBelowZero, within, flagNumber, readsYes};
 
 // inv(a): 0 for 0, else 1 / a.
 pub fn inverse(a: f32) -> f32
@@ -50,4 +50,18 @@ pub fn is_within(most: f32, x: f32) -> bool
     ensures { λ r. ⌜ r ≡ within most x ⌝ }
 {
     x <= most && -most <= x
+}
+
+// Yes as 1, no as 0.
+pub fn flag_number(flag: bool) -> f32
+    ensures { λ r. ⌜ r ≡ flagNumber flag ⌝ }
+{
+    if flag { 1.0 } else { 0.0 }
+}
+
+// Whether a stored number is a yes: any but 0, of either sign.
+pub fn reads_yes(x: f32) -> bool
+    ensures { λ r. ⌜ r ≡ readsYes x ⌝ }
+{
+    x != 0.0
 }

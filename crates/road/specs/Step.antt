@@ -54,7 +54,7 @@ rollingDemand f dt chassis ground grounded forward w =
 -- Rules 7 and 8. Both demands of the wheel with its skid, before the rescale. Airborne: impulses 0, skid 1.
 unfoldable pub frictionOf : Format → WheelTuning → Float → Body → Bool → Ground → ℕ → Directions → Wheel → Friction
 frictionOf f tuning dt chassis contact ground grounded d w =
-    cond contact (withSkid f (rollingDemand f dt chassis ground grounded (d .forward) w) (sideDemand f tuning chassis ground (d .axis) w) (wheelLimit f tuning dt w)) airborne
+    cond contact (withSkid f (rollingDemand f dt chassis ground grounded (d .forward .vector) w) (sideDemand f tuning chassis ground (d .axis .vector) w) (wheelLimit f tuning dt w)) airborne
 
 -- Demand 3's last sentence: the two impulses and the skid of one wheel in a drive, from the kept chassis, the chassis after the springs, the time step, its ground,
 -- the number of grounded wheels, its own hit, its own stored row and the tuning that counts.
@@ -71,15 +71,15 @@ sidePoint f roll up point centre = subV f point (scaleV f up (mul f (dotV f up (
 unfoldable pub applyFriction : Format → Vector → Directions → Wheel → Chassis → Chassis
 applyFriction f up d w chassis =
     applyImpulseAtPoint f
-    (applyImpulseAtPoint f chassis (scaleV f (d .forward) (w .motion .forward)) (w .info .point))
-    (scaleV f (d .axis) (w .motion .side))
+    (applyImpulseAtPoint f chassis (scaleV f (d .forward .vector) (w .motion .forward)) (w .info .point))
+    (scaleV f (d .axis .vector) (w .motion .side))
     (sidePoint f (w .settings .roll) up (w .info .point) (chassis .body .centre))
 
 -- Rule 10. Spin in contact: (normalised (normal × world axle) dot velocity at the hard point) × dt / radius; airborne the stored one.
 unfoldable pub contactSpin : Format → Float → Body → Wheel → Float
 contactSpin f dt chassis w =
     div f
-    (mul f (dotV f (normalizeOrZero f (crossV f (w .info .normal) (w .place .axle))) (velocityAtPoint f chassis (w .info .hard))) dt)
+    (mul f (dotV f (normalizeOrZero f (crossV f (w .info .normal) (w .place .axle)) .vector) (velocityAtPoint f chassis (w .info .hard))) dt)
     (w .settings .radius)
 
 -- the 0.99 of rule 10

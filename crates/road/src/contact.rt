@@ -1,22 +1,24 @@
 // One grounded tyre and the bodies that it stands between: document 01, rule 7.
 use body::Body;
+use vector::Normalized;
 use vector::Vector;
 use wheel::Directions;
+use wheel::Fallbacks;
 use wheel::Ground;
 use wheel::Wheel;
 ghost use mathlib.Core.Path.{_≡_};
 ghost use lib.Ieee.{binary32};
-ghost use Rattle.road.specs.Contact.{contactAxis, contactForward, directionsOf, dynamicGround, relativeVelocity, swingOf, jacobianDiagonal, denominatorsOf};
+ghost use Rattle.road.specs.Contact.{contactAxis, contactForward, directionsOf, fallbacksOf, dynamicGround, relativeVelocity, swingOf, jacobianDiagonal, denominatorsOf};
 
 // The wheel's axis on the contact plane.
-fn contact_axis(axle: Vector, normal: Vector) -> Vector
+fn contact_axis(axle: Vector, normal: Vector) -> Normalized
     ensures { λ r. ⌜ r ≡ contactAxis binary32 axle normal ⌝ }
 {
     vector::normalize_or_zero(vector::sub(axle, vector::scale(normal, vector::dot(axle, normal))))
 }
 
 // Its rolling direction there.
-fn contact_forward(normal: Vector, axis: Vector) -> Vector
+fn contact_forward(normal: Vector, axis: Vector) -> Normalized
     ensures { λ r. ⌜ r ≡ contactForward binary32 normal axis ⌝ }
 {
     vector::normalize_or_zero(vector::cross(normal, axis))
@@ -28,8 +30,25 @@ pub fn directions_of(w: Wheel) -> Directions
 {
     let normal = w.info.normal;
     let axis = contact_axis(w.place.axle, normal);
-    let forward = contact_forward(normal, axis);
+    let forward = contact_forward(normal, axis.vector);
     Directions { axis, forward }
+}
+
+// Change request 2026-05: whether the two fell back to zero, as the row keeps it; both are no for an airborne wheel.
+pub fn fallbacks_of(contact: bool, d: Directions) -> Fallbacks
+    ensures { λ r. ⌜ r ≡ fallbacksOf contact d ⌝ }
+{
+    if contact {
+        Fallbacks {
+            axis: real::flag_number(d.axis.fellback),
+            forward: real::flag_number(d.forward.fellback),
+        }
+    } else {
+        Fallbacks {
+            axis: 0.0,
+            forward: 0.0,
+        }
+    }
 }
 
 // The ground as the side demand counts it: a body that is not dynamic is none.

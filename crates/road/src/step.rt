@@ -94,8 +94,8 @@ pub fn friction_of(
     ensures { λ r. ⌜ r ≡ frictionOf binary32 tuning dt chassis contact ground grounded d w ⌝ }
 {
     if contact {
-        let forward = rolling_demand(dt, chassis, ground, grounded, d.forward, w);
-        let side = side_demand(tuning, chassis, ground, d.axis, w);
+        let forward = rolling_demand(dt, chassis, ground, grounded, d.forward.vector, w);
+        let side = side_demand(tuning, chassis, ground, d.axis.vector, w);
         grip::with_skid(forward, side, wheel_limit(tuning, dt, w))
     } else {
         grip::airborne()
@@ -116,9 +116,9 @@ pub fn apply_friction(up: Vector, d: Directions, w: Wheel, chassis: Chassis) -> 
 {
     let m = w.motion;
     let point = w.info.point;
-    let rolled = body::apply_impulse_at_point(chassis, vector::scale(d.forward, m.forward), point);
+    let rolled = body::apply_impulse_at_point(chassis, vector::scale(d.forward.vector, m.forward), point);
     let lifted = side_point(w.settings.roll, up, point, chassis.body.centre);
-    body::apply_impulse_at_point(rolled, vector::scale(d.axis, m.side), lifted)
+    body::apply_impulse_at_point(rolled, vector::scale(d.axis.vector, m.side), lifted)
 }
 
 // Rule 10: the spin of a wheel in contact.
@@ -127,7 +127,7 @@ fn contact_spin(dt: f32, chassis: Body, w: Wheel) -> f32
 {
     let info = w.info;
     let forward = vector::normalize_or_zero(vector::cross(info.normal, w.place.axle));
-    let speed = vector::dot(forward, body::velocity_at_point(chassis, info.hard));
+    let speed = vector::dot(forward.vector, body::velocity_at_point(chassis, info.hard));
     speed * dt / w.settings.radius
 }
 

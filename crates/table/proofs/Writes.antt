@@ -16,10 +16,11 @@ use Rattle.wheel.specs.declared.Place.{Place}
 use Rattle.wheel.specs.declared.Settings.{Settings}
 use Rattle.wheel.specs.declared.Controls.{Controls}
 use Rattle.wheel.specs.declared.Motion.{Motion}
+use Rattle.wheel.specs.declared.Fallbacks.{Fallbacks}
 use Rattle.wheel.specs.declared.Wheel.{Wheel}
-use Rattle.wheel.specs.Parts.{withInfo, withPlace, withSettings, withControls, withApproach, withMotion, withForce, withFriction, withRotation}
+use Rattle.wheel.specs.Parts.{withInfo, withPlace, withSettings, withControls, withApproach, withMotion, withFallbacks, withForce, withFriction, withRotation}
 use Rattle.table.specs.Layout as at
-use Rattle.table.specs.Rows.{vectorAt, rotationAt, infoAt, infoList, placeAt, placeList, tuningAt, settingsAt, settingsList, controlsAt, controlsList, approachAt, approachList, motionAt, motionList, wheelOf, rowOf, rowStart, wheelAt, putWheel}
+use Rattle.table.specs.Rows.{vectorAt, rotationAt, infoAt, infoList, placeAt, placeList, tuningAt, settingsAt, settingsList, controlsAt, controlsList, approachAt, approachList, motionAt, motionList, fallbacksAt, fallbacksList, wheelOf, rowOf, rowStart, wheelAt, putWheel}
 use Rattle.table.proofs.Laws.{length-row, wheel-of-row}
 
 -- ---- a list is the list of its elements
@@ -65,13 +66,14 @@ pub record AllWrites : Type 0 where
   pub settings : (s : Settings) → WritesPart at.SETTINGS-AT at.CONTROLS-AT (settingsList s) (λ w. withSettings w s)
   pub controls : (c : Controls) → WritesPart at.CONTROLS-AT at.APPROACH-AT (controlsList c) (λ w. withControls w c)
   pub approach : (a : Approach) → WritesPart at.APPROACH-AT at.MOTION-AT (approachList a) (λ w. withApproach w a)
-  pub motion : (m : Motion) → WritesPart at.MOTION-AT at.ROW (motionList m) (λ w. withMotion w m)
+  pub motion : (m : Motion) → WritesPart at.MOTION-AT at.FALLBACKS-AT (motionList m) (λ w. withMotion w m)
+  pub fallbacks : (b : Fallbacks) → WritesPart at.FALLBACKS-AT at.ROW (fallbacksList b) (λ w. withFallbacks w b)
   pub force : (x : Float) → Writes (λ r. set r (at.MOTION-AT + at.FORCE) x) (λ w. withForce w x)
   pub friction : (d : Friction) → Writes (frictionOver d) (λ w. withFriction w d)
   pub rotation : (x y : Float) → Writes (λ r. set (set r (at.MOTION-AT + at.ROTATION) x) (at.MOTION-AT + at.SPIN) y) (λ w. withRotation w x y)
 
 pub writes : AllWrites
-unfolding listed rowOf wheelOf vectorAt rotationAt infoAt placeAt settingsAt tuningAt controlsAt approachAt motionAt
+unfolding listed rowOf wheelOf vectorAt rotationAt infoAt placeAt settingsAt tuningAt controlsAt approachAt motionAt fallbacksAt
 writes = record {
   info = λ i. record { whole = record { spelled = λ g. refl } };
   place = λ p. record { whole = record { spelled = λ g. refl } };
@@ -79,6 +81,7 @@ writes = record {
   controls = λ c. record { whole = record { spelled = λ g. refl } };
   approach = λ a. record { whole = record { spelled = λ g. refl } };
   motion = λ m. record { whole = record { spelled = λ g. refl } };
+  fallbacks = λ b. record { whole = record { spelled = λ g. refl } };
   force = λ x. record { spelled = λ g. refl };
   friction = λ d. record { spelled = λ g. refl };
   rotation = λ x y. record { spelled = λ g. refl };

@@ -155,6 +155,16 @@ SKID = SIDE-IMPULSE + 1
 abbrev pub MOTION : ℕ
 MOTION = SKID + 1
 
+-- ---- whether the axis and the forward direction of a wheel fell back to zero
+abbrev pub AXIS-FALLBACK : ℕ
+AXIS-FALLBACK = 0
+
+abbrev pub FORWARD-FALLBACK : ℕ
+FORWARD-FALLBACK = AXIS-FALLBACK + 1
+
+abbrev pub FALLBACKS : ℕ
+FALLBACKS = FORWARD-FALLBACK + 1
+
 -- ---- a row: one part after another
 abbrev pub INFO-AT : ℕ
 INFO-AT = 0
@@ -174,8 +184,11 @@ APPROACH-AT = CONTROLS-AT + CONTROLS
 abbrev pub MOTION-AT : ℕ
 MOTION-AT = APPROACH-AT + APPROACH
 
+abbrev pub FALLBACKS-AT : ℕ
+FALLBACKS-AT = MOTION-AT + MOTION
+
 abbrev pub ROW : ℕ
-ROW = MOTION-AT + MOTION
+ROW = FALLBACKS-AT + FALLBACKS
 
 -- ---- the table
 abbrev pub WHEELS : ℕ

@@ -16,6 +16,7 @@ use Rattle.wheel.specs.declared.Controls.{Controls}
 use Rattle.wheel.specs.declared.RayCastInfo.{RayCastInfo}
 use Rattle.wheel.specs.declared.Place.{Place}
 use Rattle.wheel.specs.declared.Motion.{Motion}
+use Rattle.wheel.specs.declared.Fallbacks.{Fallbacks}
 use Rattle.wheel.specs.declared.Wheel.{Wheel}
 use Rattle.table.specs.Layout as at
 
@@ -108,6 +109,12 @@ motionAt l a = record {
 abbrev pub motionList : Motion → List Float
 motionList m = m .rotation ∷ m .spin ∷ m .force ∷ m .forward ∷ m .side ∷ m .skid ∷ []
 
+unfoldable pub fallbacksAt : List Float → ℕ → Fallbacks
+fallbacksAt l a = record { axis = numberAt l (a + at.AXIS-FALLBACK); forward = numberAt l (a + at.FORWARD-FALLBACK) }
+
+abbrev pub fallbacksList : Fallbacks → List Float
+fallbacksList b = b .axis ∷ b .forward ∷ []
+
 -- ---- a row
 unfoldable pub wheelOf : List Float → Wheel
 wheelOf r = record {
@@ -117,6 +124,7 @@ wheelOf r = record {
   controls = controlsAt r at.CONTROLS-AT;
   approach = approachAt r at.APPROACH-AT;
   motion = motionAt r at.MOTION-AT;
+  fallbacks = fallbacksAt r at.FALLBACKS-AT;
 }
 
 unfoldable pub rowOf : Wheel → List Float
@@ -127,6 +135,7 @@ rowOf w =
     ++ controlsList (w .controls)
     ++ approachList (w .approach)
     ++ motionList (w .motion)
+    ++ fallbacksList (w .fallbacks)
 
 -- ---- wheel i of a table, and the table with another wheel i
 abbrev pub rowStart : ℕ → ℕ

@@ -103,6 +103,13 @@ pub const SKID: usize = SIDE_IMPULSE + 1;
 
 pub const MOTION: usize = SKID + 1;
 
+// Whether the axis and the forward direction of a wheel fell back to zero.
+pub const AXIS_FALLBACK: usize = 0;
+
+pub const FORWARD_FALLBACK: usize = AXIS_FALLBACK + 1;
+
+pub const FALLBACKS: usize = FORWARD_FALLBACK + 1;
+
 // A row: one part after another.
 pub const INFO_AT: usize = 0;
 
@@ -116,7 +123,9 @@ pub const APPROACH_AT: usize = CONTROLS_AT + CONTROLS;
 
 pub const MOTION_AT: usize = APPROACH_AT + APPROACH;
 
-pub const ROW: usize = MOTION_AT + MOTION;
+pub const FALLBACKS_AT: usize = MOTION_AT + MOTION;
+
+pub const ROW: usize = FALLBACKS_AT + FALLBACKS;
 
 // The table.
 pub const WHEELS: usize = 16;

@@ -8,6 +8,7 @@ use vector::Inertia;
 use vector::Rotation;
 use vector::Vector;
 use wheel::Controls;
+use wheel::Fallbacks;
 use wheel::Motion;
 use wheel::Place;
 use wheel::RayCastInfo;
@@ -16,9 +17,9 @@ use wheel::Wheel;
 ghost use mathlib.Core.Path.{_≡_};
 ghost use Prim.Native.Nat.{_+_, _<_, _≤_};
 ghost use lib.ListN.{length};
-ghost use Rattle.wheel.specs.Parts.{withInfo, withPlace, withSettings, withControls, withApproach, withMotion, withForce, withFriction, withRotation, frictionIn};
+ghost use Rattle.wheel.specs.Parts.{withInfo, withPlace, withSettings, withControls, withApproach, withMotion, withFallbacks, withForce, withFriction, withRotation, frictionIn};
 ghost use Rattle.table.specs.Layout as at;
-ghost use Rattle.table.specs.Rows.{vectorAt, rotationAt, inertiaAt, infoAt, infoList, placeAt, placeList, tuningAt, settingsAt, settingsList, controlsAt, controlsList, approachAt, approachList, motionAt, motionList, wheelOf, rowOf};
+ghost use Rattle.table.specs.Rows.{vectorAt, rotationAt, inertiaAt, infoAt, infoList, placeAt, placeList, tuningAt, settingsAt, settingsList, controlsAt, controlsList, approachAt, approachList, motionAt, motionList, fallbacksAt, fallbacksList, wheelOf, rowOf};
 
 pub fn vector_at(l: &[f32], a: usize) -> Vector
     requires { ⌜ a + 2 < length (now l) ⌝ }
@@ -142,6 +143,16 @@ fn motion_at(l: &[f32], a: usize) -> Motion
     }
 }
 
+fn fallbacks_at(l: &[f32], a: usize) -> Fallbacks
+    requires { ⌜ a + at.FALLBACKS ≤ length (now l) ⌝ }
+    ensures { λ r. ⌜ r ≡ fallbacksAt (now (l .entry)) a ⌝ }
+{
+    Fallbacks {
+        axis: l[a + AXIS_FALLBACK],
+        forward: l[a + FORWARD_FALLBACK],
+    }
+}
+
 // A row as a wheel.
 pub fn read_row(row: &[f32]) -> Wheel
     requires { ⌜ length (now row) ≡ at.ROW ⌝ }
@@ -154,6 +165,7 @@ pub fn read_row(row: &[f32]) -> Wheel
         controls: controls_at(row, CONTROLS_AT),
         approach: approach_at(row, APPROACH_AT),
         motion: motion_at(row, MOTION_AT),
+        fallbacks: fallbacks_at(row, FALLBACKS_AT),
     }
 }
 
@@ -249,6 +261,12 @@ fn motion_numbers(m: Motion) -> [f32; MOTION]
     [m.rotation, m.spin, m.force, m.forward, m.side, m.skid]
 }
 
+fn fallbacks_numbers(b: Fallbacks) -> [f32; FALLBACKS]
+    ensures { λ r. ⌜ r ≡ fallbacksList b ⌝ }
+{
+    [b.axis, b.forward]
+}
+
 // ---- the row with another part
 fn write_info(row: &mut [f32], i: RayCastInfo)
     requires { ⌜ length (now row) ≡ at.ROW ⌝ }
@@ -295,7 +313,15 @@ fn write_motion(row: &mut [f32], m: Motion)
     ensures { λ _. ⌜ now (row .exit) ≡ rowOf (withMotion (wheelOf (now (row .entry))) m) ⌝ }
 {
     let numbers = motion_numbers(m);
-    copy(&mut row[MOTION_AT..ROW], &numbers);
+    copy(&mut row[MOTION_AT..FALLBACKS_AT], &numbers);
+}
+
+fn write_fallbacks(row: &mut [f32], b: Fallbacks)
+    requires { ⌜ length (now row) ≡ at.ROW ⌝ }
+    ensures { λ _. ⌜ now (row .exit) ≡ rowOf (withFallbacks (wheelOf (now (row .entry))) b) ⌝ }
+{
+    let numbers = fallbacks_numbers(b);
+    copy(&mut row[FALLBACKS_AT..ROW], &numbers);
 }
 
 // The row with another contact: what a cast changes.
@@ -318,6 +344,7 @@ pub fn write_row(row: &mut [f32], w: Wheel)
     write_controls(row, w.controls);
     write_approach(row, w.approach);
     write_motion(row, w.motion);
+    write_fallbacks(row, w.fallbacks);
 }
 
 // ---- the row with other numbers of the motion: the suspension's force; the impulses and the skid; the rotation and the spin
@@ -335,6 +362,15 @@ pub fn write_friction(row: &mut [f32], d: Friction)
     row[MOTION_AT + FORWARD_IMPULSE] = d.forward;
     row[MOTION_AT + SIDE_IMPULSE] = d.side;
     row[MOTION_AT + SKID] = d.skid;
+}
+
+// The row with other impulses and skid, and other answers on its directions: what rule 7 changes.
+pub fn write_demand(row: &mut [f32], d: Friction, b: Fallbacks)
+    requires { ⌜ length (now row) ≡ at.ROW ⌝ }
+    ensures { λ _. ⌜ now (row .exit) ≡ rowOf (withFallbacks (withFriction (wheelOf (now (row .entry))) d) b) ⌝ }
+{
+    write_friction(row, d);
+    write_fallbacks(row, b);
 }
 
 pub fn write_rotation(row: &mut [f32], rotation: f32, spin: f32)

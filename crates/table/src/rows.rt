@@ -7,12 +7,13 @@ use tyre::Approach;
 use tyre::Friction;
 use vector::Pose;
 use wheel::Controls;
+use wheel::Fallbacks;
 use wheel::RayCastInfo;
 use wheel::Wheel;
 ghost use mathlib.Core.Path.{_≡_};
 ghost use Prim.Native.Nat.{_+_, _*_, _<_, _≤_};
 ghost use lib.ListN.{length};
-ghost use Rattle.wheel.specs.Parts.{withInfo, withControls, withApproach, withForce, withFriction, withRotation, frictionIn};
+ghost use Rattle.wheel.specs.Parts.{withInfo, withControls, withApproach, withFallbacks, withForce, withFriction, withRotation, frictionIn};
 ghost use Rattle.table.specs.Layout as at;
 ghost use Rattle.table.specs.Rows.{rowStart, wheelAt, putWheel, chassisOf, chassisList, chassisAt, putChassis, bodyOf, bodyAt};
 
@@ -118,6 +119,16 @@ pub fn put_friction(table: &mut [f32], i: usize, d: Friction)
     let a = row_start(i);
     let e = a + ROW;
     write_friction(&mut table[a..e], d);
+}
+
+// The table with other impulses and skid, and other answers on its directions, of wheel i.
+pub fn put_demand(table: &mut [f32], i: usize, d: Friction, b: Fallbacks)
+    requires { ⌜ (length (now table) ≡ at.SIZE) × (i < at.WHEELS) ⌝ }
+    ensures { λ _. ⌜ now (table .exit) ≡ putWheel (now (table .entry)) i (withFallbacks (withFriction (wheelAt (now (table .entry)) i) d) b) ⌝ }
+{
+    let a = row_start(i);
+    let e = a + ROW;
+    write_demand(&mut table[a..e], d, b);
 }
 
 // The table with another rotation and spin of wheel i.

@@ -1,6 +1,6 @@
 -- Document 01, "Vector arithmetic", in its order. Each operation is rounded once, none fused. Definitions only.
 use Prim.Native.Nat.{ℕ}
-use mathlib.Core.Bool.{cond}
+use mathlib.Core.Bool.{true, false, cond}
 use mathlib.Core.List.{List, [], _∷_}
 use lib.Dec.{eqb}
 use lib.ListN.{getD}
@@ -9,6 +9,7 @@ use Rattle.real.specs.Number.{zero, one, two}
 use Rattle.real.specs.Root.{rootOf}
 use Rattle.real.specs.Scalar.{usable}
 use Rattle.vector.specs.declared.Vector.{Vector}
+use Rattle.vector.specs.declared.Normalized.{Normalized}
 use Rattle.vector.specs.declared.Rotation.{Rotation}
 use Rattle.vector.specs.declared.Pose.{Pose}
 use Rattle.vector.specs.declared.Inertia.{Inertia}
@@ -48,9 +49,11 @@ crossV f a b = record {
 unfoldable pub lengthV : Format → Vector → Float
 lengthV f a = rootOf f (dotV f a a)
 
--- ---- Normalise: r = 1/length; the vector times r if r is finite and above 0, else zero.
-unfoldable pub normalizeOrZero : Format → Vector → Vector
-normalizeOrZero f v = let r = div f one (lengthV f v) in cond (usable r) (scaleV f v r) zeroV
+-- ---- Normalise: r = 1/length; the vector times r if r is finite and above 0, else zero. Change request 2026-05: it "should say if it fell back to zero".
+unfoldable pub normalizeOrZero : Format → Vector → Normalized
+normalizeOrZero f v =
+    let r = div f one (lengthV f v) in
+    cond (usable r) (record { vector = scaleV f v r; fellback = false }) (record { vector = zeroV; fellback = true })
 
 -- ---- Rotation (b, w) of v: (v·(w·w − b·b) + b·((v·b)·2)) + (b×v)·(w·2).
 unfoldable pub rotateV : Format → Rotation → Vector → Vector

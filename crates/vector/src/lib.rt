@@ -12,6 +12,12 @@ pub struct Vector {
     pub z: f32,
 }
 
+// What normalising gives: the vector at length 1, or zero where it fell back to that.
+pub struct Normalized {
+    pub vector: Vector,
+    pub fellback: bool,
+}
+
 // A rotation (b, w).
 pub struct Rotation {
     pub b: Vector,
@@ -124,15 +130,21 @@ pub fn length(a: Vector) -> f32
     real::root::root(dot(a, a))
 }
 
-// The vector at length 1; zero where the reciprocal of its length is not finite and above 0.
-pub fn normalize_or_zero(v: Vector) -> Vector
+// The vector at length 1; zero where the reciprocal of its length is not finite and above 0, and whether that is so.
+pub fn normalize_or_zero(v: Vector) -> Normalized
     ensures { λ r. ⌜ r ≡ normalizeOrZero binary32 v ⌝ }
 {
     let r = 1.0 / length(v);
     if real::is_usable(r) {
-        scale(v, r)
+        Normalized {
+            vector: scale(v, r),
+            fellback: false,
+        }
     } else {
-        zero()
+        Normalized {
+            vector: zero(),
+            fellback: true,
+        }
     }
 }
 

@@ -9,26 +9,30 @@ use Rattle.wheel.specs.declared.Controls.{Controls}
 use Rattle.wheel.specs.declared.RayCastInfo.{RayCastInfo}
 use Rattle.wheel.specs.declared.Place.{Place}
 use Rattle.wheel.specs.declared.Motion.{Motion}
+use Rattle.wheel.specs.declared.Fallbacks.{Fallbacks}
 use Rattle.wheel.specs.declared.Wheel.{Wheel}
 
 -- ---- a part
 abbrev pub withInfo : Wheel → RayCastInfo → Wheel
-withInfo w info = record { info = info; place = w .place; settings = w .settings; controls = w .controls; approach = w .approach; motion = w .motion }
+withInfo w info = record { info = info; place = w .place; settings = w .settings; controls = w .controls; approach = w .approach; motion = w .motion; fallbacks = w .fallbacks }
 
 abbrev pub withPlace : Wheel → Place → Wheel
-withPlace w place = record { info = w .info; place = place; settings = w .settings; controls = w .controls; approach = w .approach; motion = w .motion }
+withPlace w place = record { info = w .info; place = place; settings = w .settings; controls = w .controls; approach = w .approach; motion = w .motion; fallbacks = w .fallbacks }
 
 abbrev pub withSettings : Wheel → Settings → Wheel
-withSettings w settings = record { info = w .info; place = w .place; settings = settings; controls = w .controls; approach = w .approach; motion = w .motion }
+withSettings w settings = record { info = w .info; place = w .place; settings = settings; controls = w .controls; approach = w .approach; motion = w .motion; fallbacks = w .fallbacks }
 
 abbrev pub withControls : Wheel → Controls → Wheel
-withControls w controls = record { info = w .info; place = w .place; settings = w .settings; controls = controls; approach = w .approach; motion = w .motion }
+withControls w controls = record { info = w .info; place = w .place; settings = w .settings; controls = controls; approach = w .approach; motion = w .motion; fallbacks = w .fallbacks }
 
 abbrev pub withApproach : Wheel → Approach → Wheel
-withApproach w approach = record { info = w .info; place = w .place; settings = w .settings; controls = w .controls; approach = approach; motion = w .motion }
+withApproach w approach = record { info = w .info; place = w .place; settings = w .settings; controls = w .controls; approach = approach; motion = w .motion; fallbacks = w .fallbacks }
 
 abbrev pub withMotion : Wheel → Motion → Wheel
-withMotion w motion = record { info = w .info; place = w .place; settings = w .settings; controls = w .controls; approach = w .approach; motion = motion }
+withMotion w motion = record { info = w .info; place = w .place; settings = w .settings; controls = w .controls; approach = w .approach; motion = motion; fallbacks = w .fallbacks }
+
+abbrev pub withFallbacks : Wheel → Fallbacks → Wheel
+withFallbacks w fallbacks = record { info = w .info; place = w .place; settings = w .settings; controls = w .controls; approach = w .approach; motion = w .motion; fallbacks = fallbacks }
 
 -- ---- change request 2026-07: "The source fixes it at 0.1." The fraction 1/10, rounded at the format; and settings with another roll influence
 abbrev pub rollInfluence : Format → Float

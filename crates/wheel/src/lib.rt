@@ -3,6 +3,7 @@
 use body::GroundBody;
 use tyre::Approach;
 use tyre::WheelTuning;
+use vector::Normalized;
 use vector::Rotation;
 use vector::Vector;
 
@@ -54,6 +55,12 @@ pub struct Motion {
     pub skid: f32,
 }
 
+// Change request 2026-05: whether rule 7's axis and forward direction fell back to zero in the drive, as the row keeps it: 1 or 0, and any number but 0 is yes.
+pub struct Fallbacks {
+    pub axis: f32,
+    pub forward: f32,
+}
+
 pub struct Wheel {
     pub info: RayCastInfo,
     pub place: Place,
@@ -61,6 +68,7 @@ pub struct Wheel {
     pub controls: Controls,
     pub approach: Approach,
     pub motion: Motion,
+    pub fallbacks: Fallbacks,
 }
 
 // What a wheel's ray met: nothing; a hit with its time, its normal and the ground body's number; a hit that also has the normal of the
@@ -77,8 +85,8 @@ pub enum Ground {
     On(GroundBody),
 }
 
-// A wheel's axis on the contact plane, and its rolling direction there.
+// A wheel's axis on the contact plane, and its rolling direction there, each with whether it fell back to zero.
 pub struct Directions {
-    pub axis: Vector,
-    pub forward: Vector,
+    pub axis: Normalized,
+    pub forward: Normalized,
 }

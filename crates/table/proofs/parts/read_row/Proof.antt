@@ -7,8 +7,8 @@ use Rattle.table.proofs.parts.read_row.Tie as tie
 returns : tie.Need-returns
 unfolding wheelOf
 returns c =
-    let settings = c .before .before .before in
-    rw (← settings .before .before .info-at .ensures, ← settings .before .place-at .ensures, ← settings .settings-at .ensures, ← c .before .before .controls-at .ensures, ← c .before .approach-at .ensures, ← c .motion-at .ensures)
+    let settings = c .before .before .before .before in
+    rw (← settings .before .before .info-at .ensures, ← settings .before .place-at .ensures, ← settings .settings-at .ensures, ← c .before .before .before .controls-at .ensures, ← c .before .before .approach-at .ensures, ← c .before .motion-at .ensures, ← c .fallbacks-at .ensures)
 
 pub read-row-spec : {M : Type 1} → statement M
-read-row-spec = tie.close (tie.spec (λ c κs. search needs) (λ c κs. search needs) (λ c κs. search needs) (λ c κs. search needs) (λ c κs. search needs) (λ c κs. search needs) returns)
+read-row-spec = tie.close (tie.spec (λ c κs. search needs) (λ c κs. search needs) (λ c κs. search needs) (λ c κs. search needs) (λ c κs. search needs) (λ c κs. search needs) (λ c κs. search needs) returns)
