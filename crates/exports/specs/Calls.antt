@@ -9,7 +9,7 @@ use Rattle.refusals.specs.After.{After, settled}
 use Rattle.add_wheel.specs.Add.{addWheel}
 use Rattle.set_controls.specs.Controls.{setControls}
 use Rattle.read_wheel.specs.declared.Reading.{Reading}
-use Rattle.read_wheel.specs.Read.{SETTLED, settledList, readWheel}
+use Rattle.read_wheel.specs.Read.{ALL, allList, readWheel}
 use Rattle.table.specs.Layout as table
 use Rattle.table.specs.Rows.{settingsAt, controlsAt, chassisOf}
 use Rattle.aim.specs.declared.Aimed.{Aimed}
@@ -28,11 +28,11 @@ flatAdd t m settings = settled (firstFailed (ofLength settings table.SETTINGS �
 unfoldable pub flatControls : Format → List Float → List ℕ → ℕ → List Float → After ℕ
 flatControls f t m wheel controls = settled (firstFailed (ofLength controls table.CONTROLS ∷ [])) (λ n. n) (setControls f t m wheel (controlsAt controls 0)) t m
 
--- the results of a read have the settled centre last
+-- the results of a read have the two answers on the directions last
 unfoldable pub flatRead : Format → List Float → List ℕ → ℕ → List Float → After Flat
 flatRead f t m wheel results =
-    settled (firstFailed (ofLength results SETTLED ∷ [])) (λ n. flat n results)
-    (flattened (λ (r : Reading). r .number) settledList results (readWheel f t m wheel)) t m
+    settled (firstFailed (ofLength results ALL ∷ [])) (λ n. flat n results)
+    (flattened (λ (r : Reading). r .number) allList results (readWheel f t m wheel)) t m
 
 unfoldable pub flatAim : Format → List Float → List ℕ → List Float → List Float → After Flat
 flatAim f t m chassis results =

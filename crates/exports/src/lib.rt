@@ -3,7 +3,7 @@
 // call, and refuses with 1, before all else, a list of settings, controls, chassis or results of the wrong length. Results are written only
 // where the answer is 0.
 use drive::Driven;
-use read_wheel::SETTLED;
+use read_wheel::ALL;
 use table::layout as lent;
 ghost use mathlib.Core.Path.{_≡_};
 ghost use mathlib.Core.Bool.{true};
@@ -156,7 +156,7 @@ pub extern "C" fn vehicle_drive(
 // Reads one wheel after a drive: `read_wheel::read_wheel`.
 // Takes: a vehicle; the wheel's number.
 // Results, vehicle_read_len numbers: centre, world direction, world axle, suspension length, force, forward and side impulse, skid, rotation,
-// and the settled centre, where the tyre is drawn.
+// the settled centre, where the tyre is drawn, and 1 or 0 each: whether rule 7's axis and its forward direction fell back to zero.
 #[no_mangle]
 pub extern "C" fn vehicle_read_wheel(
     table: &[f32],
@@ -166,7 +166,7 @@ pub extern "C" fn vehicle_read_wheel(
 ) -> u32
     ensures { λ r. ⌜ after (flat r (now (results .exit))) (now (table .entry)) (now (whole .entry)) ≡ flatRead binary32 (now (table .entry)) (now (whole .entry)) wheel (now (results .entry)) ⌝ }
 {
-    if results.len() != SETTLED {
+    if results.len() != ALL {
         return 1;
     }
     let r = read_wheel::read_wheel(table, whole, wheel);
@@ -249,7 +249,7 @@ pub extern "C" fn vehicle_drive_len() -> u32
 // How many numbers a read writes.
 #[no_mangle]
 pub extern "C" fn vehicle_read_len() -> u32
-    ensures { λ r. ⌜ r ≡ read.SETTLED ⌝ }
+    ensures { λ r. ⌜ r ≡ read.ALL ⌝ }
 {
-    SETTLED as u32
+    ALL as u32
 }

@@ -1,15 +1,9 @@
 -- The results of an accepted drive as the flat list that it writes: the velocities, and the yes or no behind them. Those of an aim and of a read are the lists of their calls. Definitions only.
-use mathlib.Core.Bool.{Bool}
 use mathlib.Core.List.{List, [], _∷_, _++_}
 use lib.Ieee.{Float}
-use Rattle.lists.specs.Pick.{pick}
-use Rattle.real.specs.Number.{zero, one}
+use Rattle.real.specs.Scalar.{flagNumber}
 use Rattle.drive.specs.declared.Driven.{Driven}
 use Rattle.drive.specs.Results.{velocityList}
-
--- yes is 1, no 0
-unfoldable pub flagNumber : Bool → Float
-flagNumber b = pick b one zero
 
 unfoldable pub drivenList : Driven → List Float
 drivenList d = velocityList d ++ (flagNumber (d .wake) ∷ [])

@@ -12,31 +12,24 @@ ghost use Prim.Native.Nat.{_+_, _*_, _<_};
 ghost use lib.ListN.{length};
 ghost use Rattle.lists.specs.Part.{paste};
 ghost use Rattle.table.specs.Layout as lent;
-ghost use Rattle.read_wheel.specs.Read.{SETTLED, settledList};
+ghost use Rattle.read_wheel.specs.Read.{ALL, allList};
 ghost use Rattle.flat_out.specs.Layout as at;
 ghost use Rattle.flat_out.specs.Ends.{writtenOver};
 ghost use Rattle.aim.specs.Sights.{SIGHT, sightList, sightsList, aimedList};
-ghost use Rattle.flat_out.specs.Results.{flagNumber, drivenList};
+ghost use Rattle.flat_out.specs.Results.{drivenList};
 
 pub mod layout; // where each number stands
 
-// The results of a read, the settled centre last.
+// The results of a read, all of them.
 pub fn put_reading(results: &mut [f32], r: Reading)
-    requires { ⌜ length (now results) ≡ SETTLED ⌝ }
-    ensures { λ _. ⌜ now (results .exit) ≡ writtenOver (now (results .entry)) (r .number) (settledList r) ⌝ }
+    requires { ⌜ length (now results) ≡ ALL ⌝ }
+    ensures { λ _. ⌜ now (results .exit) ≡ writtenOver (now (results .entry)) (r .number) (allList r) ⌝ }
 {
     if r.number != 0 {
         return;
     }
-    let numbers = read_wheel::settled_numbers(r);
+    let numbers = read_wheel::all_numbers(r);
     table::rows::copy(results, &numbers);
-}
-
-// Yes as 1, no as 0.
-fn flag_number(flag: bool) -> f32
-    ensures { λ r. ⌜ r ≡ flagNumber flag ⌝ }
-{
-    if flag { 1.0 } else { 0.0 }
 }
 
 // The results of a drive.
@@ -48,7 +41,7 @@ pub fn put_driven(results: &mut [f32], d: Driven)
         return;
     }
     let v = drive::results::velocity_numbers(d);
-    let numbers = [v[0], v[1], v[2], v[3], v[4], v[5], flag_number(d.wake)];
+    let numbers = [v[0], v[1], v[2], v[3], v[4], v[5], real::flag_number(d.wake)];
     table::rows::copy(results, &numbers);
 }
 

@@ -36,7 +36,8 @@ asked c =
     pick (eqb c at.READ) Asked.Read (
     pick (eqb c at.ADD-ROLLED) Asked.AddRolled (
     pick (eqb c at.READ-SETTLED) Asked.ReadSettled (
-    Asked.Unknown))))))))
+    pick (eqb c at.READ-ALL) Asked.ReadAll (
+    Asked.Unknown)))))))))
 
 -- after a code
 unfoldable pub afterAsked : Asked → Place
@@ -48,6 +49,7 @@ afterAsked Asked.Drive = at.STEP-FLOATS then Bodies
 afterAsked Asked.Read = 0 then Wheel at.READ-FLOATS
 afterAsked Asked.AddRolled = at.ADD-ROLLED-FLOATS then End
 afterAsked Asked.ReadSettled = 0 then Wheel at.READ-FLOATS
+afterAsked Asked.ReadAll = 0 then Wheel at.READ-FLOATS
 afterAsked Asked.Unknown = 0 then Bad
 
 -- n more bodies, then the answers

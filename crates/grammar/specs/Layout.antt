@@ -49,12 +49,15 @@ DRIVE = 4
 abbrev pub STEP-FLOATS : ℕ
 STEP-FLOATS = 1
 
--- the wheel's number, and no float; code 8 is that of change request 2026-02
+-- the wheel's number, and no float; code 8 is that of change request 2026-02, code 9 that of 2026-05
 abbrev pub READ : ℕ
 READ = 5
 
 abbrev pub READ-SETTLED : ℕ
 READ-SETTLED = 8
+
+abbrev pub READ-ALL : ℕ
+READ-ALL = 9
 
 abbrev pub READ-FLOATS : ℕ
 READ-FLOATS = 0

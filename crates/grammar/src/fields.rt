@@ -53,6 +53,7 @@ pub fn asked(code: u32) -> Asked
         READ => Asked::Read,
         ADD_ROLLED => Asked::AddRolled,
         READ_SETTLED => Asked::ReadSettled,
+        READ_ALL => Asked::ReadAll,
         _ => Asked::Unknown,
     }
 }
@@ -70,6 +71,7 @@ fn after_asked(asked: Asked) -> Place
         Asked::Read => then(0, Mark::Wheel(READ_FLOATS)),
         Asked::AddRolled => then(ADD_ROLLED_FLOATS, Mark::End),
         Asked::ReadSettled => then(0, Mark::Wheel(READ_FLOATS)),
+        Asked::ReadAll => then(0, Mark::Wheel(READ_FLOATS)),
         Asked::Unknown => then(0, Mark::Bad),
     }
 }

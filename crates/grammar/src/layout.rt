@@ -31,6 +31,8 @@ pub const READ: u32 = 5;
 
 pub const READ_SETTLED: u32 = 8;
 
+pub const READ_ALL: u32 = 9;
+
 pub const READ_FLOATS: u32 = 0;
 
 // The bodies of a drive: how many at most, the floats of each, and the most that its flag may be.

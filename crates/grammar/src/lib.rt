@@ -12,6 +12,7 @@ pub enum Asked {
     Read,
     AddRolled,
     ReadSettled,
+    ReadAll,
     Unknown,
 }
 

@@ -25,7 +25,7 @@ use Rattle.grammar.specs.Grammar.{asked}
 use Rattle.scenario.specs.Decode.{numberFrom, rolledFrom, settingsFrom, wheelFrom, controlsFrom, chassisFrom}
 use Rattle.frame_words.specs.Frame.{stepFrom, bodyCountFrom, bodiesFrom, flagsFrom, answerCountFrom, answersStart, answersFrom}
 use Rattle.perform.specs.declared.Answer.{Answer}
-use Rattle.replies.specs.Replies.{aimResults, driveResults, readResults, settledResults}
+use Rattle.replies.specs.Replies.{aimResults, driveResults, readResults, settledResults, allResults}
 
 -- ---- what a code is answered: a number and the results
 pub record Answered : Type 0 where
@@ -86,6 +86,7 @@ callFor f Asked.Drive l t m = driveCall f l t m
 callFor f Asked.Read l t m = readCall f (readResults f) l t m
 callFor f Asked.AddRolled l t m = addCall (rolledFrom f l) t m
 callFor f Asked.ReadSettled l t m = readCall f (settledResults f) l t m
+callFor f Asked.ReadAll l t m = readCall f (allResults f) l t m
 callFor f Asked.Unknown l t m = noCall t m
 
 unfoldable pub callOf : Format → List ℕ → List Float → List ℕ → After Answered

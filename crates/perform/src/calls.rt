@@ -1,16 +1,16 @@
 // The calls between frames that name a wheel, made from the words of their codes: controls, read.
 use super::Answer;
+use replies::Extent;
 use scenario::decode;
 ghost use mathlib.Core.Path.{_≡_};
 ghost use lib.ListN.{length};
-ghost use Rattle.lists.specs.Pick.{pick};
 ghost use Rattle.refusals.specs.After.{after};
 ghost use Rattle.set_controls.specs.Controls.{setControls};
 ghost use Rattle.grammar.specs.Layout as code;
 ghost use Rattle.lines.specs.Layout as line;
 ghost use Rattle.scenario.specs.Format.{format};
 ghost use Rattle.scenario.specs.Decode.{wheelFrom, controlsFrom};
-ghost use Rattle.replies.specs.Replies.{readResults, settledResults};
+ghost use Rattle.replies.specs.Replies.{resultsOf};
 ghost use Rattle.perform.specs.Call.{readCall, Performs};
 
 // Sets the controls of the words. Answers the number of the call.
@@ -22,16 +22,16 @@ pub fn call_controls(words: &[u32], table: &mut [f32], whole: &mut [u32]) -> u32
     set_controls::set_controls(table, whole, wheel, decode::controls_from(words))
 }
 
-// Reads the wheel that the words name; if accepted, its numbers go into the results, with its settled centre or without.
+// Reads the wheel that the words name; if accepted, its numbers go into the results, to this extent.
 pub fn call_read(
     words: &[u32],
     table: &[f32],
     whole: &[u32],
-    settled: bool,
+    extent: Extent,
     results: &mut [u32],
 ) -> Answer
     requires { ⌜ (length (now words) ≡ code.CODE-WORDS) × (length (now results) ≡ line.RESULTS) ⌝ }
-    ensures { λ r. ⌜ Performs (readCall format (λ x. pick settled (settledResults format x) (readResults format x)) (now (words .entry)) (now (table .entry)) (now (whole .entry))) r (now (results .entry)) (now (results .exit)) (now (table .entry)) (now (whole .entry)) ⌝ }
+    ensures { λ r. ⌜ Performs (readCall format (λ x. resultsOf format extent x) (now (words .entry)) (now (table .entry)) (now (whole .entry))) r (now (results .entry)) (now (results .exit)) (now (table .entry)) (now (whole .entry)) ⌝ }
 {
     let wheel = decode::wheel_from(words);
     let r = read_wheel::read_wheel(table, whole, wheel);
@@ -39,6 +39,6 @@ pub fn call_read(
     if number != 0 {
         return Answer { number, count: 0 };
     }
-    let count = replies::put_reading(results, settled, r);
+    let count = replies::put_reading(results, extent, r);
     Answer { number, count }
 }

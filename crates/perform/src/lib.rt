@@ -3,6 +3,7 @@ mod calls; // controls and read
 mod frames; // aim and drive
 
 use grammar::Asked;
+use replies::Extent;
 use scenario::decode;
 ghost use mathlib.Core.Path.{_≡_};
 ghost use lib.ListN.{length};
@@ -49,12 +50,15 @@ pub fn perform(words: &[u32], table: &mut [f32], whole: &mut [u32], results: &mu
         }
         Asked::Aim => frames::call_aim(words, table, whole, results),
         Asked::Drive => frames::call_drive(words, table, whole, results),
-        Asked::Read => calls::call_read(words, &table[..], &whole[..], false, results),
+        Asked::Read => calls::call_read(words, &table[..], &whole[..], Extent::Document, results),
         Asked::AddRolled => {
             let number = add_wheel::add_wheel(table, whole, decode::rolled_from(words));
             Answer { number, count: 0 }
         }
-        Asked::ReadSettled => calls::call_read(words, &table[..], &whole[..], true, results),
+        Asked::ReadSettled => {
+            calls::call_read(words, &table[..], &whole[..], Extent::Settled, results)
+        }
+        Asked::ReadAll => calls::call_read(words, &table[..], &whole[..], Extent::All, results),
         Asked::Unknown => no_call(),
     }
 }

@@ -6,10 +6,10 @@ use wheel::Wheel;
 ghost use mathlib.Core.Path.{_≡_};
 ghost use lib.Ieee.{binary32};
 ghost use Rattle.refusals.specs.After.{after};
-ghost use Rattle.read_wheel.specs.Read.{refuseRead, notRead, readingOf, settledList, readWheel};
+ghost use Rattle.read_wheel.specs.Read.{refuseRead, notRead, readingOf, allList, readWheel};
 
-// What a read answers: its number, the fifteen numbers of a wheel, and its settled centre, where the tyre is drawn. `centre` is rule 1's, with
-// the length from before the cast.
+// What a read answers: its number, the fifteen numbers of a wheel, its settled centre, where the tyre is drawn, and whether rule 7's axis and
+// forward direction fell back to zero in the drive. `centre` is rule 1's, with the length from before the cast.
 pub struct Reading {
     pub number: u32,
     pub centre: Vector,
@@ -22,12 +22,16 @@ pub struct Reading {
     pub skid: f32,
     pub rotation: f32,
     pub settled: Vector,
+    pub noaxis: bool,
+    pub noforward: bool,
 }
 
-// How many numbers a read gives: document 01's, and those with the settled centre.
+// How many numbers a read gives: document 01's; those with the settled centre; and all, the two answers among them.
 pub const READING: usize = 15;
 
 pub const SETTLED: usize = READING + 3;
+
+pub const ALL: usize = SETTLED + 2;
 
 fn refuse_read(table: &[f32], whole: &[u32], wheel: u32) -> u32
     ensures { λ r. ⌜ r ≡ refuseRead (now (table .entry)) (now (whole .entry)) wheel ⌝ }
@@ -64,6 +68,8 @@ fn not_read(number: u32) -> Reading
         skid: 0.0,
         rotation: 0.0,
         settled: zero,
+        noaxis: false,
+        noforward: false,
     }
 }
 
@@ -88,14 +94,17 @@ fn reading_of(w: Wheel) -> Reading
         skid: m.skid,
         rotation: m.rotation,
         settled,
+        noaxis: real::reads_yes(w.fallbacks.axis),
+        noforward: real::reads_yes(w.fallbacks.forward),
     }
 }
 
-// Reads one wheel after a drive. The settled centre is where the tyre is drawn.
+// Reads one wheel after a drive. The settled centre is where the tyre is drawn. A wheel with no axis or no forward direction cannot push along it.
 // Takes: the table and the whole numbers of a vehicle; the wheel's number. It changes nothing.
 // Answers the number 0 with the wheel's centre, world direction, world axle, suspension length, force, forward and side impulse, skid,
-// rotation and settled centre; or refuses with the first that holds, and zeros: 1, no vehicle's table; 4, no such wheel; 5, not driven since
-// the last set-up, add or aim; 2, a stored number that is not finite or above 2^40 in magnitude.
+// rotation, settled centre, and whether it had no axis and no forward direction; or refuses with the first that holds, and zeros: 1, no
+// vehicle's table; 4, no such wheel; 5, not driven since the last set-up, add or aim; 2, a stored number that is not finite or above 2^40 in
+// magnitude.
 pub fn read_wheel(table: &[f32], whole: &[u32], wheel: u32) -> Reading
     ensures { λ r. ⌜ after r (now (table .entry)) (now (whole .entry)) ≡ readWheel binary32 (now (table .entry)) (now (whole .entry)) wheel ⌝ }
 {
@@ -106,9 +115,9 @@ pub fn read_wheel(table: &[f32], whole: &[u32], wheel: u32) -> Reading
     reading_of(table::rows::get_wheel(table, wheel as usize))
 }
 
-// The results of a read, in the order of docs/STREAM.md, the settled centre last.
-pub fn settled_numbers(r: Reading) -> [f32; SETTLED]
-    ensures { λ x. ⌜ x ≡ settledList r ⌝ }
+// The results of a read, in the order of docs/STREAM.md, the two answers last as numbers.
+pub fn all_numbers(r: Reading) -> [f32; ALL]
+    ensures { λ x. ⌜ x ≡ allList r ⌝ }
 {
     [
         r.centre.x,
@@ -129,5 +138,7 @@ pub fn settled_numbers(r: Reading) -> [f32; SETTLED]
         r.settled.x,
         r.settled.y,
         r.settled.z,
+        real::flag_number(r.noaxis),
+        real::flag_number(r.noforward),
     ]
 }

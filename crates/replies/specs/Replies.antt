@@ -10,6 +10,8 @@ use Rattle.drive.specs.declared.Driven.{Driven}
 use Rattle.aim.specs.Sights.{aimedList}
 use Rattle.drive.specs.Results.{velocityList}
 use Rattle.scenario.specs.Results.{wordsOf, flagWord}
+use Rattle.replies.specs.declared.Extent.{Extent}
+use Rattle.replies.specs.declared.Extent.the-variants.{Document, Settled, All}
 
 -- an aim of so many wheels
 unfoldable pub aimResults : Format → ℕ → Aimed → List ℕ
@@ -25,3 +27,13 @@ readResults f r = wordsOf f (readingList r)
 -- change request 2026-02: "code 8 is a read with the settled centre last"
 unfoldable pub settledResults : Format → Reading → List ℕ
 settledResults f r = wordsOf f (settledList r)
+
+-- change request 2026-05: "code 9 is a read with these two last"
+unfoldable pub allResults : Format → Reading → List ℕ
+allResults f r = settledResults f r ++ (flagWord (r .noaxis) ∷ flagWord (r .noforward) ∷ [])
+
+-- the results of a read to this extent
+unfoldable pub resultsOf : Format → Extent → Reading → List ℕ
+resultsOf f Document r = readResults f r
+resultsOf f Settled r = settledResults f r
+resultsOf f All r = allResults f r

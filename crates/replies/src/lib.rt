@@ -6,10 +6,11 @@ use drive::Driven;
 use drive::results::VELOCITIES;
 use drive::results::velocity_numbers;
 use lines::layout::WHEEL_RESULTS;
+use read_wheel::ALL;
 use read_wheel::READING;
 use read_wheel::Reading;
 use read_wheel::SETTLED;
-use read_wheel::settled_numbers;
+use read_wheel::all_numbers;
 use scenario::results;
 use table::layout::WHEELS;
 ghost use mathlib.Core.Path.{_≡_};
@@ -24,7 +25,14 @@ ghost use Rattle.aim.specs.Sights.{sightList, sightsList};
 ghost use Rattle.read_wheel.specs.Read as read;
 ghost use Rattle.scenario.specs.Format.{format};
 ghost use Rattle.scenario.specs.Results.{wordsOf};
-ghost use Rattle.replies.specs.Replies.{aimResults, driveResults, readResults, settledResults};
+ghost use Rattle.replies.specs.Replies.{aimResults, driveResults, readResults, settledResults, allResults, resultsOf};
+
+// What of a read a code prints: document 01's fifteen numbers; with the settled centre; and all, with the two answers on the directions.
+pub enum Extent {
+    Document,
+    Settled,
+    All,
+}
 
 // Where a wheel's ray starts, and the ray, from word a on.
 fn put_sight(words: &mut [u32], a: usize, s: Sight)
@@ -80,12 +88,36 @@ fn reading_count(settled: bool) -> usize
 }
 
 // The numbers of a wheel, with its settled centre or without.
-pub fn put_reading(words: &mut [u32], settled: bool, r: Reading) -> usize
+fn put_wheel(words: &mut [u32], settled: bool, r: Reading) -> usize
     requires { ⌜ length (now words) ≡ line.RESULTS ⌝ }
     ensures { λ k. ⌜ Puts (now (words .entry)) (now (words .exit)) 0 k (pick settled (settledResults format r) (readResults format r)) ⌝ }
 {
-    let numbers = settled_numbers(r);
+    let numbers = all_numbers(r);
     let count = reading_count(settled);
     results::put_numbers(words, 0, &numbers[..count]);
     count
+}
+
+// The numbers of a wheel with its settled centre, and whether its axis and its forward direction fell back to zero.
+fn put_all(words: &mut [u32], r: Reading) -> usize
+    requires { ⌜ length (now words) ≡ line.RESULTS ⌝ }
+    ensures { λ k. ⌜ Puts (now (words .entry)) (now (words .exit)) 0 k (allResults format r) ⌝ }
+{
+    let numbers = all_numbers(r);
+    results::put_numbers(words, 0, &numbers[..SETTLED]);
+    results::put_flag(words, SETTLED, r.noaxis);
+    results::put_flag(words, SETTLED + 1, r.noforward);
+    ALL
+}
+
+// What a code prints of a read.
+pub fn put_reading(words: &mut [u32], extent: Extent, r: Reading) -> usize
+    requires { ⌜ length (now words) ≡ line.RESULTS ⌝ }
+    ensures { λ k. ⌜ Puts (now (words .entry)) (now (words .exit)) 0 k (resultsOf format extent r) ⌝ }
+{
+    match extent {
+        Extent::Document => put_wheel(words, false, r),
+        Extent::Settled => put_wheel(words, true, r),
+        Extent::All => put_all(words, r),
+    }
 }

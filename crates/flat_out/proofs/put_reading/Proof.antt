@@ -12,7 +12,7 @@ returns-2 : tie.Need-returns-2
 returns-2 c =
     let at-copy = c .before .before in
     let n = at-copy .before .before .before in
-    written-of-accepted _ _ _ _ (n .before .if1 .left) (at-copy .copy .ensures ∙ n .settled-numbers .ensures)
+    written-of-accepted _ _ _ _ (n .before .if1 .left) (at-copy .copy .ensures ∙ n .all-numbers .ensures)
 
 pub put-reading-spec : {M : Type 1} → statement M
 put-reading-spec = tie.close (tie.spec returns (λ c κs. tt) (λ c. search needs) (λ c κs. search needs) (λ c. search needs) returns-2)

@@ -5,7 +5,7 @@ use Rattle.read_wheel.proofs.reading_of.Tie as tie
 
 returns : tie.Need-returns
 unfolding readingOf
-returns c = rw (← c .settled-centre .ensures)
+returns c = rw (← c .before .before .settled-centre .ensures, ← c .before .reads-yes .ensures, ← c .reads-yes2 .ensures)
 
 pub reading-of-spec : {M : Type 1} → statement M
-reading-of-spec = tie.close (tie.spec (λ c κs. tt) returns)
+reading-of-spec = tie.close (tie.spec (λ c κs. tt) (λ c κs. tt) (λ c κs. tt) returns)

@@ -1,31 +1,41 @@
--- `replies::put_reading` meets its contract: `put_numbers` puts as many as are asked for. Assumes nothing.
+-- `replies::put_reading` meets its contract: each extent has its own function. Assumes nothing.
 use borrow.Author.Needs.{needs}
-use mathlib.Core.Path.{sym}
-use native.Mathlib.Omega.{arith}
-use lib.Seq.{length-take-le}
-use Rattle.scenario.specs.Format.{format}
-use Rattle.replies.proofs.Settled.{count-fits, first-numbers-put}
+use Rattle.lists.specs.Pick.{pick}
+use Rattle.replies.specs.Replies.{resultsOf}
 use Rattle.replies.proofs.put_reading.Statement.{statement}
 use Rattle.replies.proofs.put_reading.Tie as tie
 
-array-share-prefix-numbers : tie.Need-array-share-prefix-numbers
-array-share-prefix-numbers c = let k = count-fits _ _ (c .before .reading-count .ensures) in search needs
-
-slice-aggregate-put-numbers : tie.Need-slice-aggregate-put-numbers
-slice-aggregate-put-numbers c = let k = count-fits _ _ (c .before .before .reading-count .ensures) in sym (length-take-le _ _ (search needs))
-
-put-numbers-requires : tie.Need-put-numbers-requires
-put-numbers-requires c κs =
-    let counted = c .before .before in
-    let k = count-fits _ _ (counted .reading-count .ensures) in
-    let n = length-take-le (counted .reading-count .result) (counted .before .settled-numbers .result) (omega arith) in
-    search needs
-
 returns : tie.Need-returns
+unfolding resultsOf pick
 returns c =
     let put = c .before .before in
-    let counted = put .before .before .before in
-    first-numbers-put format _ _ _ _ _ (counted .reading-count .ensures) (rw (counted .before .settled-numbers .ensures) at (put .put-numbers .ensures))
+    rw (put .before .before .enum-told .given .1) (put .put-wheel .ensures)
+
+returns-2 : tie.Need-returns-2
+unfolding resultsOf pick
+returns-2 c =
+    let put = c .before .before in
+    rw (put .before .before .enum-told2 .given .1) (put .put-wheel2 .ensures)
+
+returns-3 : tie.Need-returns-3
+unfolding resultsOf
+returns-3 c =
+    let put = c .before .before in
+    rw (put .before .before .enum-told3 .given .1) (put .put-all .ensures)
 
 pub put-reading-spec : {M : Type 1} → statement M
-put-reading-spec = tie.close (tie.spec (λ c κs. tt) (λ c κs. tt) array-share-prefix-numbers slice-aggregate-put-numbers put-numbers-requires (λ c. search needs) returns)
+put-reading-spec =
+    tie.close
+    (tie.spec
+    (λ c. search needs)
+    (λ c κs. search needs)
+    (λ c. search needs)
+    (λ c κs. search needs)
+    (λ c. search needs)
+    (λ c κs. search needs)
+    (λ c. search needs)
+    returns
+    (λ c. search needs)
+    returns-2
+    (λ c. search needs)
+    returns-3)

@@ -38,8 +38,12 @@ unfolding asked pick
 returns-8 c = rw (c .match .keys8)
 
 returns-9 : tie.Need-returns-9
+unfolding asked pick
+returns-9 c = rw (c .match .keys9)
+
+returns-10 : tie.Need-returns-10
 unfolding asked
-returns-9 c = search picks depth 40 fits 4000
+returns-10 c = search picks depth 40 fits 4000
 
 pub asked-spec : {M : Type 1} → statement M
-asked-spec = tie.close (tie.spec returns returns-2 returns-3 returns-4 returns-5 returns-6 returns-7 returns-8 returns-9)
+asked-spec = tie.close (tie.spec returns returns-2 returns-3 returns-4 returns-5 returns-6 returns-7 returns-8 returns-9 returns-10)
