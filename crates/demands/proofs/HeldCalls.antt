@@ -17,7 +17,7 @@ use Rattle.road.specs.Step.{applySuspension, applyFriction}
 use Rattle.table.specs.Layout as at
 use Rattle.table.specs.Rows.{settingsList, controlsList, chassisList, rowStart, rowOf, wheelAt, putWheel, chassisAt, putChassis}
 use Rattle.ground.specs.Frame.{Frame}
-use Rattle.passes.specs.Passes.{stored, changed, eachWheel, moved, eachMoves, transformAt, transforms, castAt, casts, suspendAt, suspensions, springAt, springs, demandOf, demandAt, demands, rescaleAt, rescales, pushAt, pushes, spinAt, spins}
+use Rattle.passes.specs.Passes.{stored, changed, eachWheel, moved, eachMoves, transformAt, transforms, castAt, casts, suspendAt, suspensions, springAt, springs, directionsAt, demandOf, demandAt, demands, rescaleAt, rescales, pushAt, pushes, spinAt, spins}
 use Rattle.passes.specs.Step.{Work, sprung, demanded, pushed, spun, demandStep, wholeStep}
 use Rattle.refusals.specs.After.{After, settled}
 use Rattle.set_up.specs.SetUp.{setUp}
@@ -30,7 +30,7 @@ use Rattle.demands.specs.History.{State, Call, SetUp, AddWheel, SetContr
 use Rattle.demands.specs.Held.{areHeld, Held, normalsIn, handsHeld, HandsHeld}
 use Rattle.demands.proofs.Each.{Each, each-of-held, held-of-each, each-part, each-paste, each-replicate}
 use Rattle.demands.proofs.HeldWheel.{WheelHeld, ChassisHeld, row-held, list-held, wheel-of-held, chassis-of-held}
-use Rattle.demands.proofs.HeldRules.{zero-fits, transform-held, cast-held, suspended-held, rubbed-held, friction-held, rescaled-held, friction-in-held, spun-held, controlled-held, new-held, pushed-held}
+use Rattle.demands.proofs.HeldRules.{zero-fits, transform-held, cast-held, suspended-held, rubbed-held, friction-held, rescaled-held, friction-in-held, answered-held, spun-held, controlled-held, new-held, pushed-held}
 use Rattle.demands.proofs.Marks.{settled-has, set-up-leaves}
 
 module _ (f : Format) where
@@ -84,7 +84,7 @@ module _ (f : Format) where
     demanded-held : WorkHeld (demandStep f tune r n t)
     unfolding demandStep demanded demands demandAt demandOf
     demanded-held = record {
-      table = each-wheel-held (demandAt f tune r _ _ _) n (λ i w u p. rubbed-held f w _ (friction-held f _ _ _ _ _ _ _ w p) p) _ (sprung-held .table);
+      table = each-wheel-held (demandAt f tune r _ _ _) n (λ i w u p. answered-held f _ _ _ (rubbed-held f w _ (friction-held f _ _ _ _ _ _ _ w p) p)) _ (sprung-held .table);
       chassis = sprung-held .chassis;
     }
 
@@ -92,7 +92,7 @@ module _ (f : Format) where
     unfolding wholeStep spun pushed rescales rescaleAt pushes pushAt applyFriction spins spinAt
     whole-step-held up =
         let scaled = each-wheel-held (rescaleAt f) n (λ i w u p. rubbed-held f w _ (rescaled-held f _ (friction-in-held f w p)) p) _ (demanded-held .table) in
-        let moved = each-moves-held (pushAt f _ _) n _ (λ i w x p. pushed-held f _ _ _ (pushed-held f x _ _ p)) _ (demanded-held .chassis) in
+        let moved = each-moves-held (pushAt f _ (directionsAt (demandStep f tune r n t .directions))) n _ (λ i w x p. pushed-held f _ _ _ (pushed-held f x _ _ p)) _ (demanded-held .chassis) in
         keep-held _ _ (each-wheel-held (spinAt f (r .dt) _ (r .answer)) n (λ i w u p. spun-held f (r .dt) _ _ w p) _ scaled) (list-held f _ moved)
 
   -- ---- each call

@@ -1,4 +1,4 @@
--- What each rule makes of a wheel, and of the chassis, when the format holds their numbers. In order: rule 1; rules 3 to 5; rules 6 to 8; rule 10; a new wheel and its controls; an impulse. Assumes nothing.
+-- What each rule makes of a wheel, and of the chassis, when the format holds their numbers. In order: rule 1; rules 3 to 5; rules 6 to 8; the answers on the directions; rule 10; a new wheel and its controls; an impulse. Assumes nothing.
 use Prim.Native.Nat.{ℕ}
 use mathlib.Core.Bool.{Bool, true, false, cond}
 use mathlib.Core.List.{List, [], _∷_, _++_}
@@ -7,7 +7,7 @@ use lib.ListN.{replicate}
 use lib.Ieee.{Float, Format, neg, mul, div, le, lt, eq, ne, fits}
 use lib.Ieee.Fits.{cond-fits, add-fits, sub-fits, mul-fits, div-fits}
 use Rattle.real.specs.Number.{zero, one}
-use Rattle.real.specs.Scalar.{notBelowZero}
+use Rattle.real.specs.Scalar.{notBelowZero, flagNumber}
 use Rattle.real.proofs.Clamping.{clamp-fits}
 use Rattle.vector.specs.declared.Vector.{Vector}
 use Rattle.vector.specs.declared.Pose.{Pose}
@@ -30,11 +30,12 @@ use Rattle.wheel.specs.declared.Motion.{Motion}
 use Rattle.wheel.specs.declared.Wheel.{Wheel}
 use Rattle.wheel.specs.declared.RayAnswer.{RayAnswer}
 use Rattle.wheel.specs.declared.RayAnswer.the-variants.{Nothing, Hit, HitUp}
-use Rattle.wheel.specs.Parts.{withInfo, withApproach, withMotion, withControls, withFriction, frictionIn}
+use Rattle.wheel.specs.Parts.{withInfo, withApproach, withMotion, withControls, withFriction, withFallbacks, frictionIn}
 use Rattle.wheel.specs.Ray.{centreOf, updateWheelTransform, upwardNormal, isUndefined, contactNormal, hitOf, missOf, rayCast}
+use Rattle.road.specs.Contact.{fallbacksOf}
 use Rattle.road.specs.Step.{contactForce, wheelForce, wheelLimit, suspendedOf, sideDemand, rollingDemand, frictionOf, spunBy, updateRotation}
 use Rattle.table.specs.Layout as at
-use Rattle.table.specs.Rows.{vectorList, tuningList, approachList, motionList, settingsList, controlsList}
+use Rattle.table.specs.Rows.{vectorList, tuningList, approachList, motionList, fallbacksList, settingsList, controlsList}
 use Rattle.add_wheel.specs.Add.{blankWheel, newWheel}
 use Rattle.demands.specs.Held.{normalsIn}
 use Rattle.demands.proofs.Each.{Each, each-replicate}
@@ -55,6 +56,7 @@ module _ (f : Format) where
     controls = h .controls;
     approach = h .approach;
     motion = h .motion;
+    fallbacks = h .fallbacks;
   }
 
   -- ---- rules 3 to 5
@@ -76,6 +78,7 @@ module _ (f : Format) where
     controls = h .controls;
     approach = a;
     motion = h .motion;
+    fallbacks = h .fallbacks;
   }
 
   length-fits : (rest travel radius time : Float) → T (fits f (suspensionLength f rest travel radius time))
@@ -117,6 +120,7 @@ module _ (f : Format) where
     controls = h .controls;
     approach = h .approach;
     motion = m;
+    fallbacks = h .fallbacks;
   }
 
   spring-fits : (tuning : WheelTuning) (rest length : Float) (approach : Approach) (invmass : Float) → T (fits f (suspensionForce f tuning rest length approach invmass))
@@ -165,7 +169,7 @@ module _ (f : Format) where
       → FrictionHeld (frictionOf f tuning dt chassis contact ground grounded d w)
   unfolding frictionOf withSkid
   friction-held tuning dt chassis true ground grounded d w h =
-      record { forward = rolling-fits dt chassis ground grounded (d .forward) w (h .controls .1 .0); side = side-fits tuning chassis ground (d .axis) w; skid = skid-fits f _ _ _ }
+      record { forward = rolling-fits dt chassis ground grounded (d .forward .vector) w (h .controls .1 .0); side = side-fits tuning chassis ground (d .axis .vector) w; skid = skid-fits f _ _ _ }
   friction-held tuning dt chassis false ground grounded d w h = record { forward = zero-fits; side = zero-fits; skid = one-fits f }
 
   pub rescaled-held : (d : Friction) → FrictionHeld d → FrictionHeld (rescaledOf f d)
@@ -174,6 +178,27 @@ module _ (f : Format) where
 
   pub friction-in-held : (w : Wheel) → WheelHeld f w → FrictionHeld (frictionIn w)
   friction-in-held w h = let m = h .motion in record { forward = m .1 .1 .1 .0; side = m .1 .1 .1 .1 .0; skid = m .1 .1 .1 .1 .1 .0 }
+
+  -- ---- change request 2026-05: the answers on the directions
+  flag-fits : (b : Bool) → T (fits f (flagNumber b))
+  unfolding flagNumber
+  flag-fits b = cond-fits f b one zero (one-fits f) zero-fits
+
+  pub answered-held : (w : Wheel) (contact : Bool) (d : Directions) → WheelHeld f w → WheelHeld f (withFallbacks w (fallbacksOf contact d))
+  unfolding fallbacksOf
+  answered-held w contact d h = record {
+    info = h .info;
+    place = h .place;
+    settings = h .settings;
+    controls = h .controls;
+    approach = h .approach;
+    motion = h .motion;
+    fallbacks = either contact;
+  }
+    where
+      either : (b : Bool) → Each f (fallbacksList (fallbacksOf b d))
+      either true = (flag-fits (d .axis .fellback), (flag-fits (d .forward .fellback), tt))
+      either false = (zero-fits, (zero-fits, tt))
 
   -- ---- rule 10
   pub spun-held : (dt : Float) (contact : Bool) (chassis : Body) (w : Wheel) → WheelHeld f w → WheelHeld f (updateRotation f dt contact chassis w)
@@ -189,6 +214,7 @@ module _ (f : Format) where
     controls = k;
     approach = h .approach;
     motion = h .motion;
+    fallbacks = h .fallbacks;
   }
 
   blank-held : WheelHeld f blankWheel
@@ -210,6 +236,7 @@ module _ (f : Format) where
         controls = (z, (z, (z, (z, (z, (one-fits f, tt))))));
         approach = h .approach;
         motion = h .motion;
+        fallbacks = h .fallbacks;
       }
 
   -- ---- an impulse: all but the velocities stay

@@ -10,7 +10,7 @@ use Rattle.vector.specs.declared.Vector.{Vector}
 use Rattle.vector.specs.declared.Rotation.{Rotation}
 use Rattle.vector.specs.Arithmetic.{addV, negV, rotateV}
 use Rattle.table.specs.Layout as at
-use Rattle.table.specs.Rows.{numberAt, vectorList, infoList, placeList, settingsList, controlsList, approachList, motionList, vectorAt, rotationAt, infoAt, placeAt, settingsAt, tuningAt, controlsAt, approachAt, motionAt, wheelOf, rowOf, rotationList, inertiaList, inertiaAt, chassisOf, chassisList}
+use Rattle.table.specs.Rows.{numberAt, vectorList, infoList, placeList, settingsList, controlsList, approachList, motionList, fallbacksList, vectorAt, rotationAt, infoAt, placeAt, settingsAt, tuningAt, controlsAt, approachAt, motionAt, fallbacksAt, wheelOf, rowOf, rotationList, inertiaList, inertiaAt, chassisOf, chassisList}
 use Rattle.body.specs.declared.Chassis.{Chassis}
 use Rattle.wheel.specs.declared.RayCastInfo.{RayCastInfo}
 use Rattle.wheel.specs.declared.Place.{Place}
@@ -59,6 +59,7 @@ pub record WheelHeld (f : Format) (w : Wheel) : Type 0 where
   pub controls : Each f (controlsList (w .controls))
   pub approach : Each f (approachList (w .approach))
   pub motion : Each f (motionList (w .motion))
+  pub fallbacks : Each f (fallbacksList (w .fallbacks))
 
 -- ---- a chassis: its velocities, and what stands before and behind them
 pub record ChassisHeld (f : Format) (c : Chassis) : Type 0 where
@@ -89,14 +90,16 @@ module _ (f : Format) where
   pub row-held : (w : Wheel) → WheelHeld f w → Each f (rowOf w)
   unfolding rowOf
   row-held w h =
-      let motion = motionList (w .motion) in
+      let fallbacks = fallbacksList (w .fallbacks) in
+      let motion = motionList (w .motion) ++ fallbacks in
       let approach = approachList (w .approach) ++ motion in
       let controls = controlsList (w .controls) ++ approach in
       let settings = settingsList (w .settings) ++ controls in
       each-append f (infoList (w .info)) (placeList (w .place) ++ settings) (info-held (w .info) (h .info))
       (each-append f (placeList (w .place)) settings (place-held (w .place) (h .place))
       (each-append f (settingsList (w .settings)) controls (h .settings)
-      (each-append f (controlsList (w .controls)) approach (h .controls) (each-append f (approachList (w .approach)) motion (h .approach) (h .motion)))))
+      (each-append f (controlsList (w .controls)) approach (h .controls) (each-append f (approachList (w .approach)) motion (h .approach)
+      (each-append f (motionList (w .motion)) fallbacks (h .motion) (h .fallbacks))))))
 
   pub list-held : (c : Chassis) → ChassisHeld f c → Each f (chassisList c)
   unfolding chassisList
@@ -117,7 +120,7 @@ module _ (f : Format) where
     vector-held a = record { x = number-fits f l a h; y = number-fits f l (a + 1) h; z = number-fits f l (a + 2) h }
 
     pub wheel-of-held : WheelHeld f (wheelOf l)
-    unfolding listed wheelOf infoAt placeAt settingsAt tuningAt controlsAt approachAt motionAt vectorAt rotationAt
+    unfolding listed wheelOf infoAt placeAt settingsAt tuningAt controlsAt approachAt motionAt fallbacksAt vectorAt rotationAt
     wheel-of-held = record {
       info = record {
         normal = vector-held (at.INFO-AT + at.NORMAL);
@@ -130,6 +133,7 @@ module _ (f : Format) where
       controls = numbers-held at.CONTROLS-AT at.CONTROLS;
       approach = numbers-held at.APPROACH-AT at.APPROACH;
       motion = numbers-held at.MOTION-AT at.MOTION;
+      fallbacks = numbers-held at.FALLBACKS-AT at.FALLBACKS;
     }
 
     pub chassis-of-held : ChassisHeld f (chassisOf l)

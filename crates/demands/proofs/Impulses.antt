@@ -32,11 +32,12 @@ use Rattle.tyre.proofs.Demand3.{unpowered as unpowered-within, limit-not-negati
 use Rattle.wheel.specs.declared.Settings.{Settings}
 use Rattle.wheel.specs.declared.Wheel.{Wheel}
 use Rattle.wheel.specs.declared.Controls.{Controls}
+use Rattle.wheel.specs.declared.Fallbacks.{Fallbacks}
 use Rattle.wheel.specs.declared.Ground.{Ground}
 use Rattle.wheel.specs.declared.RayAnswer.{RayAnswer}
-use Rattle.wheel.specs.Parts.{withFriction, frictionIn}
+use Rattle.wheel.specs.Parts.{withFriction, withFallbacks, frictionIn}
 use Rattle.wheel.specs.Ray.{isGrounded}
-use Rattle.road.specs.Contact.{directionsOf, relativeVelocity, denominatorsOf}
+use Rattle.road.specs.Contact.{directionsOf, fallbacksOf, relativeVelocity, denominatorsOf}
 use Rattle.road.specs.Step as step
 use Rattle.road.specs.Step.{suspendedOf, contactForce, wheelForce, wheelLimit, rollingDemand, frictionOf, impulsesOf}
 use Rattle.road.proofs.Alone.{impulses-alone}
@@ -81,10 +82,14 @@ groundIn d i = groundUnder (d .frame .bodies) (d .frame .dynamic) (d .frame .ans
 abbrev pub groundedIn : Step → ℕ
 groundedIn d = groundedWheels (d .frame .answer) (d .n)
 
+-- whether its directions fell back to zero, as a drive keeps it
+abbrev pub fallbacksAt : Format → Step → ℕ → Fallbacks
+fallbacksAt f d i = fallbacksOf (groundedAt (d .frame .answer) i) (directionsOf f (sprungAt f d i))
+
 -- its rolling demand before the brake's clamp, from the chassis after the springs, its ground and the number of grounded wheels
 abbrev pub uncutOf : Format → Body → Ground → ℕ → Wheel → Float
 uncutOf f chassis ground grounded w =
-    let ahead = directionsOf f w .forward in
+    let ahead = directionsOf f w .forward .vector in
     rollingResponse f (dotV f ahead (relativeVelocity f chassis ground (w .info .point))) (denominatorsOf f chassis ground (w .info .point) ahead) grounded
 
 abbrev pub uncutAt : Format → Step → ℕ → Float
@@ -110,7 +115,8 @@ module _ (f : Format) (d : Step) (accepted : Accepted f d) where
     friction-of-wheel = rw driven-table (friction-alone f stored (d .frame) (d .n) room (d .table) (tests .early .frame .shape .sized) i counted (upOf (d .whole)))
 
     -- the wheel at its demands
-    demand-of : demandingWheel f d i ≡ withFriction (sprungAt f d i) (frictionOf f (storedWheel d i .settings .tuning) (d .frame .dt) (bodyIn f d) (groundedAt (d .frame .answer) i) (groundIn d i) (groundedIn d) (directionsOf f (sprungAt f d i)) (sprungAt f d i))
+    demand-of : demandingWheel f d i
+        ≡ withFallbacks (withFriction (sprungAt f d i) (frictionOf f (storedWheel d i .settings .tuning) (d .frame .dt) (bodyIn f d) (groundedAt (d .frame .answer) i) (groundIn d i) (groundedIn d) (directionsOf f (sprungAt f d i)) (sprungAt f d i))) (fallbacksAt f d i)
     unfolding groundedAt
     demand-of = wheel-demanded f stored (d .frame) (d .n) room (d .table) (tests .early .frame .shape .sized) i counted
 
@@ -133,10 +139,10 @@ brake-of-stepped {f} {d} {i} s =
     }
 
 -- ---- a grounded wheel
-skid-of-demand : (f : Format) (dt forward side : Float) (w x : Wheel) → x ≡ withFriction w (withSkid f forward side (wheelLimit f (w .settings .tuning) dt w))
+skid-of-demand : (f : Format) (dt forward side : Float) (w x : Wheel) (b : Fallbacks) → x ≡ withFallbacks (withFriction w (withSkid f forward side (wheelLimit f (w .settings .tuning) dt w))) b
     → x .motion .skid ≡ skidOf f (x .motion .forward) (x .motion .side) (wheelLimit f (x .settings .tuning) dt x)
 unfolding withSkid wheelLimit
-skid-of-demand f dt forward side w x e = rw e
+skid-of-demand f dt forward side w x b e = rw e
 
 module _ (f : Format) (d : Step) (i : ℕ) (g : Grounded f d i) where
   -- the wheel after the springs, its directions, and the settings it stores
@@ -144,20 +150,20 @@ module _ (f : Format) (d : Step) (i : ℕ) (g : Grounded f d i) where
   hung = sprungAt f d i
 
   abbrev axis : Vector
-  axis = directionsOf f hung .axis
+  axis = directionsOf f hung .axis .vector
 
   abbrev forward : Vector
-  forward = directionsOf f hung .forward
+  forward = directionsOf f hung .forward .vector
 
   own-settings : hung .settings ≡ storedWheel d i .settings
   own-settings = sprung-keeps-settings f _ _ _ (storedWheel d i)
 
   demand-grounded : demandingWheel f d i
-      ≡ withFriction hung (withSkid f (rollingDemand f (d .frame .dt) (bodyIn f d) (groundIn d i) (groundedIn d) forward hung) (step.sideDemand f (hung .settings .tuning) (bodyIn f d) (groundIn d i) axis hung) (wheelLimit f (hung .settings .tuning) (d .frame .dt) hung))
+      ≡ withFallbacks (withFriction hung (withSkid f (rollingDemand f (d .frame .dt) (bodyIn f d) (groundIn d i) (groundedIn d) forward hung) (step.sideDemand f (hung .settings .tuning) (bodyIn f d) (groundIn d i) axis hung) (wheelLimit f (hung .settings .tuning) (d .frame .dt) hung))) (fallbacksOf true (directionsOf f hung))
   unfolding frictionOf
   demand-grounded =
       (rw (g .contact) at (demand-of f d (g .stepped .accepted) i (g .stepped .counted)))
-      ∙ ap (λ (x : Settings). withFriction hung (withSkid f (rollingDemand f (d .frame .dt) (bodyIn f d) (groundIn d i) (groundedIn d) forward hung) (step.sideDemand f (x .tuning) (bodyIn f d) (groundIn d i) axis hung) (wheelLimit f (x .tuning) (d .frame .dt) hung)))
+      ∙ ap (λ (x : Settings). withFallbacks (withFriction hung (withSkid f (rollingDemand f (d .frame .dt) (bodyIn f d) (groundIn d i) (groundedIn d) forward hung) (step.sideDemand f (x .tuning) (bodyIn f d) (groundIn d i) axis hung) (wheelLimit f (x .tuning) (d .frame .dt) hung))) (fallbacksOf true (directionsOf f hung)))
       (sym own-settings)
 
   pub limit-is : gripLimit f d i ≡ wheelLimit f (hung .settings .tuning) (d .frame .dt) hung
@@ -173,7 +179,7 @@ module _ (f : Format) (d : Step) (i : ℕ) (g : Grounded f d i) where
   side-is = ap (λ (x : Wheel). x .motion .side) demand-grounded
 
   skid-is : demandingWheel f d i .motion .skid ≡ skidOf f (forwardDemand f d i) (sideDemand f d i) (gripLimit f d i)
-  skid-is = skid-of-demand f (d .frame .dt) _ _ hung (demandingWheel f d i) demand-grounded
+  skid-is = skid-of-demand f (d .frame .dt) _ _ hung (demandingWheel f d i) _ demand-grounded
 
   -- its impulses are its demands, rescaled by its own skid
   pub forward-rescaled : forwardImpulse f d i ≡ rescaledBy f (skidOf f (forwardDemand f d i) (sideDemand f d i) (gripLimit f d i)) (forwardDemand f d i)
@@ -253,7 +259,7 @@ module _ (f : Format) (d : Step) (i : ℕ) (s : Stepped f d i) (unpowered : powe
   airborne-within-brake : groundedAt (d .frame .answer) i ≡ false → WithinBrake f (brakeOf d i) (forwardImpulse f d i)
   unfolding frictionOf rescaledOf rescaledBy lt
   airborne-within-brake contact =
-      let demand : demandingWheel f d i ≡ withFriction (sprungAt f d i) airborne = rw contact at (demand-of f d (s .accepted) i (s .counted)) in
+      let demand : demandingWheel f d i ≡ withFallbacks (withFriction (sprungAt f d i) airborne) (fallbacksOf false (directionsOf f (sprungAt f d i))) = rw contact at (demand-of f d (s .accepted) i (s .counted)) in
       let none : forwardImpulse f d i ≡ zero =
       ap (λ (x : Friction). x .forward) (friction-of-demand f d (s .accepted) i (s .counted)) ∙ ap (λ (x : Wheel). rescaledOf f (frictionIn x) .forward) demand in
       subst (WithinBrake f (brakeOf d i)) (sym none) (record { impulse-sized = record { held = zero-fits f; is-finite = tt }; brake-sized = sized-of-small (small-of-admitted (brake-of-stepped s .admitted)); at-most = zero-counts f })

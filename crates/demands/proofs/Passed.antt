@@ -13,11 +13,12 @@ use Rattle.tyre.specs.Grip.{rescaledOf}
 use Rattle.wheel.specs.declared.Settings.{Settings}
 use Rattle.wheel.specs.declared.Wheel.{Wheel}
 use Rattle.wheel.specs.declared.Directions.{Directions}
+use Rattle.wheel.specs.declared.Fallbacks.{Fallbacks}
 use Rattle.wheel.specs.declared.RayAnswer.{RayAnswer}
 use Rattle.wheel.specs.declared.RayAnswer.the-variants.{Nothing, Hit, HitUp}
-use Rattle.wheel.specs.Parts.{withMotion, withFriction, frictionIn}
+use Rattle.wheel.specs.Parts.{withMotion, withFriction, withFallbacks, frictionIn}
 use Rattle.wheel.specs.Ray.{rayCast, hitOf, missOf, isGrounded}
-use Rattle.road.specs.Contact.{directionsOf}
+use Rattle.road.specs.Contact.{directionsOf, fallbacksOf}
 use Rattle.road.specs.Step.{suspendedOf, frictionOf, impulsesOf, spunBy, updateRotation}
 use Rattle.table.specs.Layout as at
 use Rattle.table.specs.Rows.{wheelAt, chassisAt}
@@ -85,7 +86,11 @@ module _ (f : Format) (tune : WheelTuning → WheelTuning) (r : Frame) (n : ℕ)
   abbrev friction : Friction
   friction = frictionOf f own (r .dt) (sprung f tune r n t .chassis .body) (isGrounded (r .answer i)) (groundUnder (r .bodies) (r .dynamic) (r .answer i)) (groundedWheels (r .answer) n) (directionsOf f hung) hung
 
-  pub wheel-demanded : wheelAt (demandStep f tune r n t .table) i ≡ withFriction hung friction
+  -- whether these fell back to zero
+  abbrev fallbacks : Fallbacks
+  fallbacks = fallbacksOf (isGrounded (r .answer i)) (directionsOf f hung)
+
+  pub wheel-demanded : wheelAt (demandStep f tune r n t .table) i ≡ withFallbacks (withFriction hung friction) fallbacks
   unfolding demandStep demanded demandAt demandOf
   wheel-demanded =
       let body = sprung f tune r n t .chassis .body in
@@ -94,7 +99,7 @@ module _ (f : Format) (tune : WheelTuning → WheelTuning) (r : Frame) (n : ℕ)
       wheel-demands f n (sprung f tune r n t .table) (length-sprung f tune r n l t s) l i h tune r body grounded d
       ∙ ap (demandAt f tune r body grounded d i) wheel-sprung
       ∙ ap (λ (x : Directions). demandOf f tune (r .dt) body (r .bodies) (r .dynamic) (r .answer i) grounded x hung) directions-sprung
-      ∙ ap (λ (x : Settings). withFriction hung (frictionOf f (tune (x .tuning)) (r .dt) body (isGrounded (r .answer i)) (groundUnder (r .bodies) (r .dynamic) (r .answer i)) grounded (directionsOf f hung) hung))
+      ∙ ap (λ (x : Settings). withFallbacks (withFriction hung (frictionOf f (tune (x .tuning)) (r .dt) body (isGrounded (r .answer i)) (groundUnder (r .bodies) (r .dynamic) (r .answer i)) grounded (directionsOf f hung) hung)) fallbacks)
       (sprung-keeps-settings f own kept (r .answer i) (wheelAt t i))
 
   -- rule 9 takes rule 7's directions: those of the wheel as the demands and the rescale leave it are the same
@@ -119,15 +124,15 @@ module _ (f : Format) (tune : WheelTuning → WheelTuning) (r : Frame) (n : ℕ)
   unfolding impulsesOf
   friction-alone up = friction-stepped up ∙ ap (λ (w : Wheel). rescaledOf f (frictionIn w)) wheel-demanded
 
-  -- but for its motion, the wheel that the step leaves is as its cast left it
-  pub wheel-stepped : (up : ℕ) → let w = wheelAt (wholeStep f tune up r n t .table) i in w ≡ withMotion (rayCast f own kept (r .answer i) (wheelAt t i)) (w .motion)
+  -- but for its motion, the wheel that the step leaves is as its cast left it, with the answers on its directions
+  pub wheel-stepped : (up : ℕ) → let w = wheelAt (wholeStep f tune up r n t .table) i in w ≡ withFallbacks (withMotion (rayCast f own kept (r .answer i) (wheelAt t i)) (w .motion)) fallbacks
   unfolding wholeStep spun pushed updateRotation spunBy suspendedOf
   wheel-stepped up =
       let demanded = demandStep f tune r n t .table in
       let end = pushed f up n (demandStep f tune r n t) .chassis in
-      let last : wheelAt (wholeStep f tune up r n t .table) i ≡ updateRotation f (r .dt) (groundedAt (r .answer) i) (end .body) (withFriction (withFriction hung friction) (rescaledOf f friction)) =
+      let last : wheelAt (wholeStep f tune up r n t .table) i ≡ updateRotation f (r .dt) (groundedAt (r .answer) i) (end .body) (withFriction (withFallbacks (withFriction hung friction) fallbacks) (rescaledOf f friction)) =
       wheel-stays (spins f (r .dt) (end .body) (r .answer) n (rescales f n demanded)) end i
       ∙ wheel-spins f n (rescales f n demanded) (length-rescaled f tune r n l t s) l i h (r .dt) (end .body) (r .answer)
       ∙ ap (updateRotation f (r .dt) (groundedAt (r .answer) i) (end .body))
       (wheel-rescales f n demanded (length-demanded f tune r n l t s) l i h ∙ ap (λ (w : Wheel). withFriction w (rescaledOf f (frictionIn w))) wheel-demanded) in
-      last ∙ ap (λ (w : Wheel). withMotion (rayCast f own kept (r .answer i) (wheelAt t i)) (w .motion)) (sym last)
+      last ∙ ap (λ (w : Wheel). withFallbacks (withMotion (rayCast f own kept (r .answer i) (wheelAt t i)) (w .motion)) fallbacks) (sym last)

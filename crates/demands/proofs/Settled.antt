@@ -16,12 +16,13 @@ use Rattle.body.specs.declared.Chassis.{Chassis}
 use Rattle.wheel.specs.declared.Wheel.{Wheel}
 use Rattle.wheel.specs.declared.RayAnswer.{RayAnswer}
 use Rattle.wheel.specs.declared.RayAnswer.the-variants.{Nothing, Hit, HitUp}
-use Rattle.wheel.specs.Parts.{withMotion}
+use Rattle.wheel.specs.Parts.{withMotion, withFallbacks}
 use Rattle.wheel.specs.Ray.{centreOf, settledCentre, updateWheelTransform, rayCast, hitOf, missOf}
 use Rattle.table.specs.Layout as at
 use Rattle.table.specs.Rows.{wheelAt, chassisAt, putChassis}
 use Rattle.table.specs.Bounds.{storedWithin}
 use Rattle.table.proofs.Laws.{length-keep, wheel-stays}
+use Rattle.ground.specs.Frame.{groundedAt}
 use Rattle.passes.specs.Passes.{stored, transforms, transformAt}
 use Rattle.passes.specs.Step.{wholeStep}
 use Rattle.passes.proofs.Laws.{wheel-each}
@@ -41,7 +42,7 @@ use Rattle.demands.proofs.Shapes.{shape-ok, shape-other-table, shape-ma
 use Rattle.demands.proofs.Sizes.{length-whole-step}
 use Rattle.demands.proofs.Updates.{driven-is, aimed-is}
 use Rattle.demands.proofs.Passed.{wheel-stepped}
-use Rattle.demands.proofs.Impulses.{tests, room, driven-table}
+use Rattle.demands.proofs.Impulses.{tests, room, driven-table, fallbacksAt}
 
 -- ---- one wheel: rules 3 to 5 keep its hard point, its place and its settings, and give its length
 module _ (f : Format) (kept : Body) where
@@ -89,7 +90,8 @@ module _ (f : Format) (d : Step) (i : ℕ) (accepted : Accepted f d) (counted : 
   abbrev cast : Wheel
   cast = rayCast f (w .settings .tuning) (chassisAt (d .table) .body) (d .frame .answer i) w
 
-  driven-of-cast : drivenWheel f d i ≡ withMotion cast (drivenWheel f d i .motion)
+  pub driven-of-cast : drivenWheel f d i ≡ withFallbacks (withMotion cast (drivenWheel f d i .motion)) (fallbacksAt f d i)
+  unfolding groundedAt
   driven-of-cast = rw (driven-table f d accepted) (wheel-stepped f stored (d .frame) (d .n) (room f d accepted) (d .table) (tests f d accepted .early .frame .shape .sized) i counted (upOf (d .whole)))
 
   pub driven-settled : settledCentre f (drivenWheel f d i) ≡ centreOf f (w .info .hard) (w .place .direction) (driveLength f d i)

@@ -28,8 +28,8 @@ use Rattle.demands.specs.History.{State, Call, SetUp, AddWheel, SetContr
 unfoldable pub fixedFriction : Format → Vector → Directions → Wheel → Chassis → Chassis
 fixedFriction f up d w chassis =
     applyImpulseAtPoint f
-    (applyImpulseAtPoint f chassis (scaleV f (d .forward) (w .motion .forward)) (w .info .point))
-    (scaleV f (d .axis) (w .motion .side))
+    (applyImpulseAtPoint f chassis (scaleV f (d .forward .vector) (w .motion .forward)) (w .info .point))
+    (scaleV f (d .axis .vector) (w .motion .side))
     (sidePoint f (rollInfluence f) up (w .info .point) (chassis .body .centre))
 
 -- the pass over the wheels, with the directions of rule 7

@@ -1,12 +1,12 @@
 -- `perform::perform` meets its contract: the definition, replayed as the code runs. Assumes nothing.
 use borrow.Author.Needs.{needs}
 use mathlib.Core.Path.{_≡_, sym, _∙_}
-use Rattle.lists.specs.Pick.{pick}
 use Rattle.set_controls.specs.Controls.{setControls}
 use Rattle.grammar.specs.declared.Asked.{Asked}
 use Rattle.grammar.specs.Grammar.{asked}
 use Rattle.scenario.specs.Format.{format}
 use Rattle.scenario.specs.Decode.{numberFrom, wheelFrom, controlsFrom}
+use Rattle.replies.specs.Replies.{resultsOf}
 use Rattle.perform.specs.Call.{callFor, callOf}
 use Rattle.perform.proofs.Told.{told-number, told-none}
 use Rattle.perform.proofs.perform.Statement.{statement}
@@ -69,7 +69,7 @@ returns-5 c =
     rw (asks (arm .before .before) _ (arm .enum-told5 .given .1)) (call .call-drive .ensures)
 
 returns-6 : tie.Need-returns-6
-unfolding callOf callFor pick
+unfolding callOf callFor resultsOf
 returns-6 c =
     let call = c .before .before in
     let arm = call .before .before .before .before in
@@ -84,17 +84,24 @@ returns-7 c =
     rw (asks (arm .before .before) _ (arm .enum-told7 .given .1), ← settings .rolled-from .ensures) (told-number _ _ _ _ _ (call .add-wheel2 .ensures))
 
 returns-8 : tie.Need-returns-8
-unfolding callOf callFor pick
+unfolding callOf callFor resultsOf
 returns-8 c =
     let call = c .before .before in
     let arm = call .before .before .before .before in
     rw (asks (arm .before .before) _ (arm .enum-told8 .given .1)) (call .call-read2 .ensures)
 
 returns-9 : tie.Need-returns-9
-unfolding callOf callFor
+unfolding callOf callFor resultsOf
 returns-9 c =
+    let call = c .before .before in
+    let arm = call .before .before .before .before in
+    rw (asks (arm .before .before) _ (arm .enum-told9 .given .1)) (call .call-read3 .ensures)
+
+returns-10 : tie.Need-returns-10
+unfolding callOf callFor
+returns-10 c =
     let arm = c .before in
-    rw (asks (arm .before .before) _ (arm .enum-told9 .given .1)) (told-none _ _ _ _ (c .no-call2 .ensures))
+    rw (asks (arm .before .before) _ (arm .enum-told10 .given .1)) (told-none _ _ _ _ (c .no-call2 .ensures))
 
 pub perform-spec : {M : Type 1} → statement M
 perform-spec =
@@ -118,6 +125,8 @@ perform-spec =
     (λ c. search needs)
     (λ c κs. search needs)
     (λ c κs. tt)
+    (λ c. search needs)
+    (λ c κs. search needs)
     (λ c. search needs)
     (λ c κs. search needs)
     (λ c. search needs)
@@ -148,4 +157,8 @@ perform-spec =
     (λ c. search needs)
     (λ c. search needs)
     returns-8
-    returns-9)
+    (λ c. search needs)
+    (λ c. search needs)
+    (λ c. search needs)
+    returns-9
+    returns-10)
