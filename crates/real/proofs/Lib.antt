@@ -10,6 +10,7 @@ pub mod RootOfUnits
 pub mod Near
 pub mod SignedCounts
 pub mod NotNegative
+pub mod Nought
 pub mod Rounding
 pub mod RootRounds
 pub mod Bounds

@@ -79,7 +79,7 @@ mul-not-negative f (fin false m e) (fin true n d) p q = round-zero f true (m * u
 mul-not-negative f (fin false m e) (fin false n d) p q = round-not-negative f (m * up e * (n * up d)) (down e * down d)
 
 -- both zeros are equal
-level-zero : (s t : Bool) (x y : ℕ) → x ≡ 0 → y ≡ 0 → level s x t y ≡ true
+pub level-zero : (s t : Bool) (x y : ℕ) → x ≡ 0 → y ≡ 0 → level s x t y ≡ true
 level-zero s t x y e d = ap₂ (λ (a b : ℕ). level s a t b) e d ∙ or-true (Bool·beq s t)
   where
     or-true : (b : Bool) → b || true ≡ true

@@ -1,0 +1,2 @@
+-- The laws that proofs over the vectors cite.
+pub mod Fallback
