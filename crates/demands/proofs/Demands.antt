@@ -2,15 +2,19 @@
 -- request's own words stand above each.
 -- That a function is its definition, and that it ends for all numbers and every lent table, is each function's contract, proved in its own crate: none has a `requires`. Assumes nothing.
 use Prim.Native.Nat.{ℕ, _≤_, _<_}
-use mathlib.Core.Bool.{true, false}
+use mathlib.Core.Bool.{Bool, true, false, not, true≢false}
 use mathlib.Core.List.{List, _∷_}
 use mathlib.Core.Path.{_≡_, refl, sym, ap, subst, _∙_}
 use native.Mathlib.Omega.{arith}
 use borrow.Author.Tests.{eqb-true, eq-eqb}
-use lib.Ieee.{Float, Format, lt, le, eq}
+use lib.Ieee.{Float, Format, div, lt, le, eq}
 use lib.ListN.{length}
-use Rattle.real.specs.Scalar.{within}
+use Rattle.real.specs.Number.{one}
+use Rattle.real.specs.Scalar.{usable, within}
+use Rattle.vector.specs.declared.Vector.{Vector}
 use Rattle.vector.specs.declared.Pose.{Pose}
+use Rattle.vector.specs.Arithmetic.{zeroV, scaleV, lengthV, normalizeOrZero}
+use Rattle.vector.proofs.Fallback.{fellback-is, fellback-zero}
 use Rattle.body.specs.declared.Chassis.{Chassis}
 use Rattle.wheel.specs.declared.Wheel.{Wheel}
 use Rattle.wheel.specs.declared.Place.{Place}
@@ -24,10 +28,11 @@ use Rattle.tyre.specs.Grip.{skidOf, rescaledBy}
 use Rattle.tyre.specs.Demand3.{precision, Grips, WithinBrake, leastLimit}
 use Rattle.tyre.specs.MoreBrake.{BrakesNoLess}
 use Rattle.tyre.proofs.Demand3.{not-sliding, sliding}
+use Rattle.road.proofs.Fallback.{no-axis-no-forward}
 use Rattle.table.specs.Layout as at
 use Rattle.table.specs.Rows.{wheelAt, chassisAt}
 use Rattle.table.specs.Bounds.{HANDED, STORED}
-use Rattle.ground.specs.Frame.{Frame}
+use Rattle.ground.specs.Frame.{Frame, groundedAt}
 use Rattle.ranges.specs.Ranges.{inUnit, settingsInRange}
 use Rattle.refusals.specs.Shape.{countOf, markOf, upOf, forwardOf}
 use Rattle.refusals.specs.After.{After, after, settled, marked}
@@ -52,6 +57,7 @@ use Rattle.demands.specs.Update.{Placed, updateOf, updated}
 use Rattle.demands.specs.Impulses.{Step, stepAfter, Accepted, Stepped, Grounded, storedWheel, drivenWheel, forwardDemand, sideDemand, gripLimit, forwardImpulse, sideImpulse, skidAt, brakeOf, slidesAt, poweredAt, Alike}
 use Rattle.demands.specs.MoreBrake.{AlikeButForBrake}
 use Rattle.demands.specs.Settled.{afterDrive, readAfterDrive, quiet, driveLength, withLength, centreUnder, isFinite}
+use Rattle.demands.specs.Fallback.{axisIn, forwardIn, IsZeroV, NoRoll, NoSide}
 use Rattle.demands.specs.Fixed.{fixedStep, fixedInRange, IsTenth, AllTenth, AddsHand}
 use Rattle.demands.proofs.Marks.{history-from-set-up}
 use Rattle.demands.proofs.Five.{five-of-not-driven, not-five-of-driven}
@@ -64,6 +70,7 @@ use Rattle.demands.proofs.Impulses.{tests, forward-rescaled, side-resca
 use Rattle.demands.proofs.Settled.{driven-settled, driven-place, read-done, read-after-drive, shape-after-drive, settled-of-placed, next-centre}
 use Rattle.demands.proofs.Quiet.{quiet-stays}
 use Rattle.demands.proofs.Finite.{settled-finite}
+use Rattle.demands.proofs.Fallback.{axis-of-grounded, forward-of-grounded, axis-of-airborne, forward-of-airborne, no-side, no-roll, no-side-push, no-forward-push}
 use Rattle.demands.proofs.Fixed.{tenth-passes, ranges-alike, step-alike}
 use Rattle.demands.proofs.Stored.{stored-from-set-up}
 use Rattle.demands.proofs.MoreBrake.{demand-no-less, demand-equal, demand-same}
@@ -237,16 +244,21 @@ module _ (f : Format) (d : Step) (i : ℕ) (passed : Accepted f d) (counted : i 
   unfolding readingOf
   centre-after-drive = ap (λ (x : Reading). x .centre) driven-is-read ∙ ap (λ (x : Place). x .centre) (driven-place f d i passed counted)
 
-  -- every accepted read from then on gives that settled centre, until the next accepted set-up, add, aim or drive
-  pub settled-until-next : (l : List Call) → quiet f l (afterDrive f d) ≡ true → accepted f (ReadWheel i) (runAll f l (afterDrive f d)) ≡ true
-      → readWheel f (runAll f l (afterDrive f d) .table) (runAll f l (afterDrive f d) .whole) i .reply .settled ≡ readAfterDrive f d i .reply .settled
-  unfolding accepted answered readingOf
-  settled-until-next l q h =
+  -- every accepted read from then on gives what that one gave, until the next accepted set-up, add, aim or drive
+  pub read-until-next : (l : List Call) → quiet f l (afterDrive f d) ≡ true → accepted f (ReadWheel i) (runAll f l (afterDrive f d)) ≡ true
+      → readWheel f (runAll f l (afterDrive f d) .table) (runAll f l (afterDrive f d) .whole) i .reply ≡ readAfterDrive f d i .reply
+  unfolding accepted answered
+  read-until-next l q h =
       let now = runAll f l (afterDrive f d) in
       let z : refuseRead (now .table) (now .whole) i ≡ 0 = sym (read-number f (now .table) (now .whole) i) ∙ eqb-true _ 0 h in
-      ap (λ (x : After Reading). x .reply .settled) (read-done f (now .table) (now .whole) i z)
+      ap (λ (x : After Reading). x .reply) (read-done f (now .table) (now .whole) i z)
       ∙ quiet-stays f l (afterDrive f d) i (shape-after-drive f d i passed counted) q
-      ∙ sym (ap (λ (x : Reading). x .settled) driven-is-read)
+      ∙ sym driven-is-read
+
+  -- so every one gives that settled centre
+  pub settled-until-next : (l : List Call) → quiet f l (afterDrive f d) ≡ true → accepted f (ReadWheel i) (runAll f l (afterDrive f d)) ≡ true
+      → readWheel f (runAll f l (afterDrive f d) .table) (runAll f l (afterDrive f d) .whole) i .reply .settled ≡ readAfterDrive f d i .reply .settled
+  settled-until-next l q h = ap (λ (x : Reading). x .settled) (read-until-next l q h)
 
 -- It is not stored, and no refusal looks at it: it needs none, since no accepted read gives a NaN or an infinity there.
 pub settled-is-finite : (f : Format) (t : List Float) (m : List ℕ) (i : ℕ) → Held f t → refuseRead t m i ≡ 0 → isFinite (readWheel f t m i .reply .settled) ≡ true
@@ -290,6 +302,59 @@ module _ (f : Format) (lent : State) (up forward : ℕ) (l : List Call) (set-up 
 -- drive are those that `normalsOk` accepts, and every theorem above on accepted drives reads over those.
 pub accepted-normals : (f : Format) (t : List Float) (m : List ℕ) (r : Frame) (n i : ℕ) → refuseDrive f t m r n ≡ 0 → i < n → normalsOk f (r .answer i) ≡ true
 accepted-normals f t m r n i h l = normals-say f (r .answer) n i (drive-says f t m r n h .early .normals) l
+
+-- ---- Change request 2026-05, "Tell us when a wheel has no rolling direction." "The normalise step should say if it fell back to zero": yes exactly where the reciprocal of the length is not finite and above 0, and the
+-- vector is zero there.
+pub fell-back-exactly : (f : Format) (v : Vector) → normalizeOrZero f v .fellback ≡ not (usable (div f one (lengthV f v)))
+fell-back-exactly f v = fellback-is f v
+
+pub fell-back-to-zero : (f : Format) (v : Vector) → normalizeOrZero f v .fellback ≡ true → normalizeOrZero f v .vector ≡ zeroV
+fell-back-to-zero f v h = fellback-zero f v h
+
+-- "up through friction into what a read gives: two yes or no answers, for the axis and the forward direction of rule 7. .. Yes holds exactly where the fall-back was used; both are no for an airborne wheel." `d` is an accepted
+-- drive from any stored state, i the number of one of its wheels; `axisIn` and `forwardIn` are rule 7's own directions in that drive.
+module _ (f : Format) (d : Step) (i : ℕ) (passed : Accepted f d) (counted : i < d .n) where
+  pub no-axis-exactly : groundedAt (d .frame .answer) i ≡ true → readAfterDrive f d i .reply .noaxis ≡ axisIn f d i .fellback
+  no-axis-exactly contact = axis-of-grounded f d i passed counted contact
+
+  pub no-forward-exactly : groundedAt (d .frame .answer) i ≡ true → readAfterDrive f d i .reply .noforward ≡ forwardIn f d i .fellback
+  no-forward-exactly contact = forward-of-grounded f d i passed counted contact
+
+  pub airborne-both-no : groundedAt (d .frame .answer) i ≡ false → (readAfterDrive f d i .reply .noaxis ≡ false) × (readAfterDrive f d i .reply .noforward ≡ false)
+  airborne-both-no contact = (axis-of-airborne f d i passed counted contact, forward-of-airborne f d i passed counted contact)
+
+  -- a wheel with no axis has no forward direction either: of the four pairs of answers, yes and no never stand together so
+  pub no-axis-then-no-forward : readAfterDrive f d i .reply .noaxis ≡ true → readAfterDrive f d i .reply .noforward ≡ true
+  no-axis-then-no-forward h = either (groundedAt (d .frame .answer) i) refl
+    where
+      either : (b : Bool) → groundedAt (d .frame .answer) i ≡ b → readAfterDrive f d i .reply .noforward ≡ true
+      either true e = no-forward-exactly e ∙ no-axis-no-forward f _ _ (sym (no-axis-exactly e) ∙ h)
+      either false e = absurd (true≢false (sym h ∙ axis-of-airborne f d i passed counted e))
+
+-- What it means for the animator, of a grounded wheel. With no axis it asks for nothing to the side, and gets nothing; with no forward direction, an unpowered wheel asks for nothing along it. So with no axis an unpowered wheel
+-- is dead: both demands are zero, and both impulses. With no forward direction alone the side demand may well be another than zero, and a powered wheel's rolling demand is its engine force times the time step; but what rule 9
+-- applies along a direction that fell back is the zero vector, so an engine moves nothing.
+module _ {f : Format} {d : Step} {i : ℕ} (g : Grounded f d i) where
+  axis-said : readAfterDrive f d i .reply .noaxis ≡ true → axisIn f d i .fellback ≡ true
+  axis-said h = sym (no-axis-exactly f d i (g .stepped .accepted) (g .stepped .counted) (g .contact)) ∙ h
+
+  forward-said : readAfterDrive f d i .reply .noforward ≡ true → forwardIn f d i .fellback ≡ true
+  forward-said h = sym (no-forward-exactly f d i (g .stepped .accepted) (g .stepped .counted) (g .contact)) ∙ h
+
+  pub no-axis-no-side : readAfterDrive f d i .reply .noaxis ≡ true → NoSide f d i
+  no-axis-no-side h = no-side f d i g (axis-said h)
+
+  pub no-forward-no-roll : poweredAt d i ≡ false → readAfterDrive f d i .reply .noforward ≡ true → NoRoll f d i
+  no-forward-no-roll unpowered h = no-roll f d i g (forward-said h) unpowered
+
+  pub no-axis-is-dead : poweredAt d i ≡ false → readAfterDrive f d i .reply .noaxis ≡ true → NoRoll f d i × NoSide f d i
+  no-axis-is-dead unpowered h = (no-forward-no-roll unpowered (no-axis-then-no-forward f d i (g .stepped .accepted) (g .stepped .counted) h), no-axis-no-side h)
+
+  pub no-axis-no-push : readAfterDrive f d i .reply .noaxis ≡ true → IsZeroV (scaleV f (axisIn f d i .vector) (sideImpulse f d i))
+  no-axis-no-push h = no-side-push f d i g (axis-said h)
+
+  pub no-forward-no-push : readAfterDrive f d i .reply .noforward ≡ true → IsZeroV (scaleV f (forwardIn f d i .vector) (forwardImpulse f d i))
+  no-forward-no-push h = no-forward-push f d i g (forward-said h)
 
 -- ---- Change request 2026-07, "Roll influence per wheel." "With 0.1 everywhere demand 2 reads as it did": where each wheel of a step stores 0.1, the step is `fixedStep`, whose rule 9 has 0.1 for every wheel. From any stored
 -- state, under any tuning.

@@ -174,7 +174,7 @@ module _ (f : Format) (d : Step) (i : ℕ) (g : Grounded f d i) where
   unfolding withSkid
   forward-is = ap (λ (x : Wheel). x .motion .forward) demand-grounded
 
-  side-is : sideDemand f d i ≡ step.sideDemand f (hung .settings .tuning) (bodyIn f d) (groundIn d i) axis hung
+  pub side-is : sideDemand f d i ≡ step.sideDemand f (hung .settings .tuning) (bodyIn f d) (groundIn d i) axis hung
   unfolding withSkid
   side-is = ap (λ (x : Wheel). x .motion .side) demand-grounded
 

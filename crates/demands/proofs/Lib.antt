@@ -10,6 +10,7 @@ pub mod Impulses
 pub mod MoreBrake
 pub mod Settled
 pub mod Fixed
+pub mod Fallback
 pub mod Stored
 pub mod Finite
 pub mod Quiet

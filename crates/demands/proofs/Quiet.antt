@@ -1,4 +1,4 @@
--- Calls that neither drive nor call for a new drive leave the settled centre of each wheel where it is. In order: a call that was refused; set controls; any such call; a list of them. Assumes nothing.
+-- Calls that neither drive nor call for a new drive leave what a read gives of each wheel. In order: a call that was refused; set controls; any such call; a list of them. Assumes nothing.
 use Prim.Native.Nat.{ℕ, _<_}
 use mathlib.Core.Bool.{Bool, true, false, not, _&&_, _||_, true≢false}
 use mathlib.Core.List.{List, [], _∷_}
@@ -21,7 +21,7 @@ use Rattle.set_up.specs.SetUp.{setUp}
 use Rattle.add_wheel.specs.Add.{addWheel}
 use Rattle.set_controls.specs.Controls.{setControls}
 use Rattle.set_controls.proofs.Accepted.{set-controls-says}
-use Rattle.read_wheel.specs.Read.{readWheel}
+use Rattle.read_wheel.specs.Read.{readingOf, readWheel}
 use Rattle.aim.specs.Aim.{aimOf, notAimed, aimedBy}
 use Rattle.drive.specs.Drive.{driveUnder, driveOf, notDriven, drivenBy}
 use Rattle.demands.specs.History.{State, Call, SetUp, AddWheel, SetControls, Aim, Drive, ReadWheel, answered, accepted, run, runAll, drives, undrives}
@@ -47,22 +47,22 @@ refused-keeps of number refused done t m q = either (eqb number 0)
     either false e = refl
 
 -- ---- set controls of wheel j
-controls-keep : (f : Format) (t : List Float) (i j : ℕ) (c : Controls) → length t ≡ at.SIZE → j < at.WHEELS → settledCentre f (wheelAt (putWheel t j (withControls (wheelAt t j) c)) i) ≡ settledCentre f (wheelAt t i)
-unfolding settledCentre
+controls-keep : (f : Format) (t : List Float) (i j : ℕ) (c : Controls) → length t ≡ at.SIZE → j < at.WHEELS → readingOf f (wheelAt (putWheel t j (withControls (wheelAt t j) c)) i) ≡ readingOf f (wheelAt t i)
+unfolding readingOf settledCentre
 controls-keep f t i j c s l = either (eqb i j) refl
   where
-    either : (b : Bool) → eqb i j ≡ b → settledCentre f (wheelAt (putWheel t j (withControls (wheelAt t j) c)) i) ≡ settledCentre f (wheelAt t i)
-    either true e = rw (eqb-true i j e) (ap (settledCentre f) (wheel-put t j (withControls (wheelAt t j) c) s l))
-    either false e = ap (settledCentre f) (wheel-other t j i (withControls (wheelAt t j) c) (eqb-false i j e) s l)
+    either : (b : Bool) → eqb i j ≡ b → readingOf f (wheelAt (putWheel t j (withControls (wheelAt t j) c)) i) ≡ readingOf f (wheelAt t i)
+    either true e = rw (eqb-true i j e) (ap (readingOf f) (wheel-put t j (withControls (wheelAt t j) c) s l))
+    either false e = ap (readingOf f) (wheel-other t j i (withControls (wheelAt t j) c) (eqb-false i j e) s l)
 
 -- ---- any call
 abbrev Stays : Format → ℕ → State → List Float → List ℕ → Type 0
-Stays f i s t m = settledCentre f (wheelAt t i) ≡ settledCentre f (wheelAt (s .table) i)
+Stays f i s t m = readingOf f (wheelAt t i) ≡ readingOf f (wheelAt (s .table) i)
 
-of-same : (f : Format) (i : ℕ) (s : State) (t : List Float) → t ≡ s .table → settledCentre f (wheelAt t i) ≡ settledCentre f (wheelAt (s .table) i)
-of-same f i s t e = ap (λ (x : List Float). settledCentre f (wheelAt x i)) e
+of-same : (f : Format) (i : ℕ) (s : State) (t : List Float) → t ≡ s .table → readingOf f (wheelAt t i) ≡ readingOf f (wheelAt (s .table) i)
+of-same f i s t e = ap (λ (x : List Float). readingOf f (wheelAt x i)) e
 
-call-stays : (f : Format) (c : Call) (s : State) (i : ℕ) → Shape (s .table) (s .whole) → not ((drives c || undrives c) && accepted f c s) ≡ true → settledCentre f (wheelAt (run f c s .table) i) ≡ settledCentre f (wheelAt (s .table) i)
+call-stays : (f : Format) (c : Call) (s : State) (i : ℕ) → Shape (s .table) (s .whole) → not ((drives c || undrives c) && accepted f c s) ≡ true → readingOf f (wheelAt (run f c s .table) i) ≡ readingOf f (wheelAt (s .table) i)
 unfolding run accepted answered drives undrives setUp addWheel setControls aimOf aimedBy driveOf driveUnder drivenBy readWheel
 call-stays f (SetUp up forward) s i shape h = of-same f i s _ (refused-keeps (λ n. n) _ _ _ (s .table) (s .whole) refl (not-true _ h))
 call-stays f (AddWheel settings) s i shape h = of-same f i s _ (refused-keeps (λ n. n) _ _ _ (s .table) (s .whole) refl (not-true _ h))
@@ -74,7 +74,7 @@ call-stays f (Drive frame n) s i shape h = of-same f i s _ (refused-keeps (λ r.
 call-stays f (ReadWheel j) s i shape h = settled-has (Stays f i s) _ _ _ (s .table) (s .whole) refl (λ z. refl)
 
 -- ---- a list of calls
-pub quiet-stays : (f : Format) (l : List Call) (s : State) (i : ℕ) → Shape (s .table) (s .whole) → quiet f l s ≡ true → settledCentre f (wheelAt (runAll f l s .table) i) ≡ settledCentre f (wheelAt (s .table) i)
+pub quiet-stays : (f : Format) (l : List Call) (s : State) (i : ℕ) → Shape (s .table) (s .whole) → quiet f l s ≡ true → readingOf f (wheelAt (runAll f l s .table) i) ≡ readingOf f (wheelAt (s .table) i)
 unfolding runAll run quiet
 quiet-stays f [] s i shape h = refl
 quiet-stays f (c ∷ l) s i shape h =

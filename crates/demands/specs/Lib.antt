@@ -6,4 +6,5 @@ pub mod Impulses
 pub mod MoreBrake
 pub mod Settled
 pub mod Fixed
+pub mod Fallback
 pub mod Same

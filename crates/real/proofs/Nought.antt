@@ -1,6 +1,6 @@
--- A value that is a NaN or a zero. A fraction of 0 rounds to one (round-nought); minus one, the sum and the difference of two, a product with one, one divided by anything, and the root of one are such values (neg-nought, add-nought, sub-nought,
--- mul-nought-left, mul-nought-right, div-nought, root-nought); the reciprocal of one is not finite and above 0 (reciprocal-unusable); one that is no NaN is equal to 0 (zero-of-nought), and what is equal to 0 is
--- one (nought-of-zero); clamped to ± a bound it still is equal to 0 (clamp-zero). Assumes nothing.
+-- A value that is a NaN or a zero. What is equal to 0 is one (nought-of-zero), and a fraction of 0 rounds to such a number (round-zero, round-nought); minus one, the sum and the difference of two, a product with one, one divided by anything, and the root of one are such values (neg-nought, add-nought, sub-nought,
+-- mul-nought-left, mul-nought-right, div-nought, root-nought); the reciprocal of one is not finite and above 0 (reciprocal-unusable); one that is no NaN is equal to 0 (zero-of-nought), as 0 times a finite number is
+-- (zero-mul-finite), and clamped to ± a bound it still is (clamp-zero). Assumes nothing.
 use mathlib.Core.Path.{_≡_, refl, sym, ap, ap₂, subst, _∙_}
 use Prim.Native.Nat.{ℕ, zero, suc, _+_, _-_, _*_, _/_, _^_, _<_, min}
 use native.Mathlib.Nat.{eq-of-mul-eq-mul-right, mul-pos, zero-mul, zero-div, zero-min}
@@ -12,6 +12,7 @@ use lib.Pow.{pow-pos}
 use lib.Ieee.{Float, nan, inf, fin, Format, prec, emax, low, unlike, up, down, isNan, round, neg, add, sub, sum, mul, div, lt, eq, fits}
 use lib.Ieee.Fits.{up-pos, down-pos, and-l}
 use lib.Ieee.Exact.{HasValue, round-exact}
+use lib.Ieee.Scale.{finite}
 use Rattle.real.specs.Number.{zero as nought, one}
 use Rattle.real.specs.Root.{rootOf}
 use Rattle.real.specs.Scalar.{usable, clampOf}
@@ -25,15 +26,30 @@ Nought nan = Unit {0}
 Nought (inf s) = ⊥
 Nought (fin s m e) = m ≡ 0
 
+-- ---- what is equal to 0 is one
+pub nought-of-zero : (x : Float) → eq x nought ≡ true → Nought x
+unfolding eq
+nought-of-zero nan h = tt
+nought-of-zero (inf s) h = absurd (true≢false (sym h))
+nought-of-zero (fin s m e) h =
+    let none : m * up e * 1 ≡ 0 * 1 * down e = eqb→eq (m * up e * 1) (0 * 1 * down e) (and-l (eqb (m * up e * 1) (0 * 1 * down e)) _ (subst T (sym h) tt)) in
+    eq-of-mul-eq-mul-right (up e) (up-pos e) m 0 (omega arith)
+
 -- ---- rounding
-round-nought : (f : Format) (s : Bool) (a c : ℕ) → a ≡ 0 → 0 < c → Nought (round f s a c)
-round-nought f s a c e C =
-    subst (λ (z : ℕ). Nought (round f s z c)) (sym e) (of-value (round f s 0 c) (round-exact f s 0 c 0 0 C (pow-pos (prec f)) (pow-pos (low f + suc (emax f))) (omega arith)))
+round-zero : (f : Format) (s : Bool) (a c : ℕ) → a ≡ 0 → 0 < c → eq (round f s a c) nought ≡ true
+unfolding eq
+round-zero f s a c e C =
+    subst (λ (z : ℕ). eq (round f s z c) nought ≡ true) (sym e) (of-value (round f s 0 c) (round-exact f s 0 c 0 0 C (pow-pos (prec f)) (pow-pos (low f + suc (emax f))) (omega arith)))
   where
-    of-value : (x : Float) → HasValue x s 0 c → Nought x
-    of-value nan h = tt
+    of-value : (x : Float) → HasValue x s 0 c → eq x nought ≡ true
+    of-value nan h = absurd h
     of-value (inf t) h = absurd h
-    of-value (fin t m e) h = eq-of-mul-eq-mul-right (up e * c) (mul-pos (up-pos e) C) m 0 (omega (arith, h .1))
+    of-value (fin t m e) h =
+        let none : m ≡ 0 = eq-of-mul-eq-mul-right (up e * c) (mul-pos (up-pos e) C) m 0 (omega (arith, h .1)) in
+        level-zero t false (m * up e * 1) (0 * 1 * down e) (ap (λ (z : ℕ). z * up e * 1) none ∙ omega arith) (omega arith)
+
+round-nought : (f : Format) (s : Bool) (a c : ℕ) → a ≡ 0 → 0 < c → Nought (round f s a c)
+round-nought f s a c e C = nought-of-zero (round f s a c) (round-zero f s a c e C)
 
 -- ---- the operations
 pub neg-nought : (x : Float) → Nought x → Nought (neg x)
@@ -82,6 +98,13 @@ mul-nought-right f (fin s m e) nan q = tt
 mul-nought-right f (fin s m e) (inf t) q = absurd q
 mul-nought-right f (fin s m e) (fin t n d) q = round-nought f (unlike s t) (m * up e * (n * up d)) (down e * down d) (ap (λ (z : ℕ). m * up e * (z * up d)) q ∙ omega arith) (mul-pos (down-pos e) (down-pos d))
 
+-- a finite number times 0
+pub zero-mul-finite : (f : Format) (x : Float) → T (finite x) → eq (mul f nought x) nought ≡ true
+unfolding mul
+zero-mul-finite f nan t = absurd t
+zero-mul-finite f (inf s) t = absurd t
+zero-mul-finite f (fin s m e) t = round-zero f (unlike false s) (0 * 1 * (m * up e)) (1 * down e) (omega arith) (mul-pos (omega arith) (down-pos e))
+
 pub div-nought : (f : Format) (x y : Float) → Nought x → Nought (div f x y)
 unfolding div
 div-nought f nan y p = tt
@@ -120,15 +143,6 @@ unfolding isNan eq
 zero-of-nought nan p n = absurd n
 zero-of-nought (inf s) p n = absurd p
 zero-of-nought (fin s m e) p n = level-zero s false (m * up e * 1) (0 * 1 * down e) (ap (λ (z : ℕ). z * up e * 1) p ∙ omega arith) (omega arith)
-
--- what is equal to 0 is one
-pub nought-of-zero : (x : Float) → eq x nought ≡ true → Nought x
-unfolding eq
-nought-of-zero nan h = tt
-nought-of-zero (inf s) h = absurd (true≢false (sym h))
-nought-of-zero (fin s m e) h =
-    let none : m * up e * 1 ≡ 0 * 1 * down e = eqb→eq (m * up e * 1) (0 * 1 * down e) (and-l (eqb (m * up e * 1) (0 * 1 * down e)) _ (subst T (sym h) tt)) in
-    eq-of-mul-eq-mul-right (up e) (up-pos e) m 0 (omega arith)
 
 -- clamped to ± a bound that is not negative
 pub clamp-zero : {f : Format} {b : Float} {c : ℕ} → Signed f b false c → (x : Float) → Nought x → T (fits f x) → T (not (isNan x)) → eq (clampOf x (neg b) b) nought ≡ true
