@@ -56,3 +56,10 @@ impl crate::step::Kept for Wheel {
         ]
     }
 }
+
+impl crate::step::Directed for DynamicRayCastVehicleController {
+    /// What the last update worked out for this wheel.
+    fn directions(&self, wheel: usize) -> crate::step::Directions {
+        crate::step::Directions { axis: self.axle[wheel], forward: self.forward_ws[wheel] }
+    }
+}

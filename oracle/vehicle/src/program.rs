@@ -86,9 +86,13 @@ pub fn call(table: &mut Table, code: &Code) -> Line {
         }
         Code::ReadSettled(wheel) => {
             let read = table.read_wheel(*wheel);
-            let mut floats = fifteen(&read);
-            floats.extend(read.settled.parts());
-            Line::with_results(8, read.answer, words(&floats))
+            Line::with_results(8, read.answer, words(&eighteen(&read)))
+        }
+        Code::ReadAll(wheel) => {
+            let read = table.read_wheel(*wheel);
+            let mut results = words(&eighteen(&read));
+            results.extend([read.no_axis, read.no_forward].map(u32::from));
+            Line::with_results(9, read.answer, results)
         }
     }
 }
@@ -107,6 +111,13 @@ fn fifteen(read: &WheelRead) -> Vec<f32> {
         read.skid,
         read.rotation,
     ]);
+    floats
+}
+
+/// Those and the settled centre.
+fn eighteen(read: &WheelRead) -> Vec<f32> {
+    let mut floats = fifteen(read);
+    floats.extend(read.settled.parts());
     floats
 }
 

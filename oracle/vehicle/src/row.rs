@@ -2,7 +2,8 @@
 //!
 //! A row holds the numbers of `Wheel` and `RayCastInfo` part by part: the ray's info, the place, the
 //! settings, the controls, the approach, the motion. Contact and ground object are not kept; steering
-//! is kept as a rotation.
+//! is kept as a rotation. Behind them stand the two numbers of change request 2026-05, which `Wheel`
+//! does not have.
 
 use std::ops::Range;
 
@@ -13,11 +14,12 @@ pub const WHEELS: usize = 16;
 /// Numbers of the kept chassis.
 pub const CHASSIS: usize = 26;
 /// Numbers of one wheel's row.
-pub const ROW: usize = 52;
+pub const ROW: usize = 54;
 /// Numbers of a table.
 pub const TABLE: usize = CHASSIS + WHEELS * ROW;
-/// Numbers of a row but for its steering: those that the source's `Wheel` holds as they are.
-pub const KEPT: usize = ROW - 4;
+/// Numbers of a row that the source's `Wheel` holds as they are: neither its steering nor what fell
+/// back.
+pub const KEPT: usize = ROW - 4 - 2;
 
 pub const CONTACT_NORMAL: usize = 0;
 pub const CONTACT_POINT: usize = 3;
@@ -50,6 +52,10 @@ pub const SUSPENSION_FORCE: usize = 48;
 pub const FORWARD_IMPULSE: usize = 49;
 pub const SIDE_IMPULSE: usize = 50;
 pub const SKID: usize = 51;
+/// 1 where rule 7's axis fell back to zero in the last drive, else 0.
+pub const NO_AXIS: usize = 52;
+/// The same of its forward direction.
+pub const NO_FORWARD: usize = 53;
 
 /// What an aim works out in a row: hard point, centre, world direction and world axle.
 pub const TRANSFORMS: Range<usize> = HARD_POINT..CONNECTION_POINT;
@@ -74,20 +80,25 @@ impl Row {
         self.0[STEERING..RELATIVE_VELOCITY].copy_from_slice(&steering.parts());
     }
 
-    /// The row without its steering.
+    /// The row without its steering and what fell back.
     pub fn kept(&self) -> [Real; KEPT] {
         let mut numbers = [0.0; KEPT];
         numbers[..STEERING].copy_from_slice(&self.0[..STEERING]);
-        numbers[STEERING..].copy_from_slice(&self.0[RELATIVE_VELOCITY..]);
+        numbers[STEERING..].copy_from_slice(&self.0[RELATIVE_VELOCITY..NO_AXIS]);
         numbers
     }
 
-    /// The row of these numbers and this steering.
+    /// The row of these numbers and this steering, in which nothing fell back.
     pub fn from_kept(numbers: [Real; KEPT], steering: Rotation) -> Row {
         let mut row = Row::ZERO;
         row.0[..STEERING].copy_from_slice(&numbers[..STEERING]);
-        row.0[RELATIVE_VELOCITY..].copy_from_slice(&numbers[STEERING..]);
+        row.0[RELATIVE_VELOCITY..NO_AXIS].copy_from_slice(&numbers[STEERING..]);
         row.set_steering(steering);
         row
+    }
+
+    /// Whether the axis fell back, and whether the forward direction did: any number but 0 is a yes.
+    pub fn fell_back(&self) -> [bool; 2] {
+        [NO_AXIS, NO_FORWARD].map(|place| self.0[place] != 0.0)
     }
 }

@@ -22,6 +22,18 @@ pub trait Kept {
     fn kept(&mut self) -> [&mut Real; KEPT];
 }
 
+/// Access to the private directions of the source's controller; see `appended/kept.rs`.
+pub trait Directed {
+    fn directions(&self, wheel: usize) -> Directions;
+}
+
+/// Rule 7's axis and forward direction of one wheel, as the source left them after a step.
+#[derive(Copy, Clone, Debug, PartialEq)]
+pub struct Directions {
+    pub axis: Vector,
+    pub forward: Vector,
+}
+
 /// What `update_vehicle` is run on.
 pub struct Step<'a> {
     pub rows: &'a [Row],
@@ -67,10 +79,14 @@ macro_rules! runner {
                 vehicle.update_vehicle(step.dt, queries);
             })?;
             let kept = |mut wheel: $copy::Wheel| wheel.kept().map(|number| *number);
-            let rows = vehicle.wheels().iter().zip(step.rows);
+            let row = |place: usize| {
+                let numbers = kept(vehicle.wheels()[place]);
+                let row = Row::from_kept(numbers, step.rows[place].steering());
+                with_fall_backs(row, &step.answers[place], vehicle.directions(place))
+            };
             let chassis = &bodies[CHASSIS_HANDLE];
             Some(Outcome {
-                rows: rows.map(|(wheel, row)| Row::from_kept(kept(*wheel), row.steering())).collect(),
+                rows: (0..step.rows.len()).map(row).collect(),
                 speed: vehicle.current_vehicle_speed,
                 rays: casts.rays.take(),
                 linear: chassis.linear,
@@ -120,6 +136,25 @@ pub fn new_row(new: &NewWheel) -> Row {
         row.0[row::ROLL_INFLUENCE] = roll_influence;
     }
     row
+}
+
+/// The row with what fell back in this step: change request 2026-05. The source does not say so, but its
+/// vectors do: one that fell back is zero, and one that did not is not. For where the reciprocal of the
+/// length is finite some square did not underflow, and where it is above 0 none overflowed, so that the
+/// greatest part times it is above 1/4. A wheel that hit nothing has no direction that could fall back.
+fn with_fall_backs(mut row: Row, answer: &RayAnswer, directions: Directions) -> Row {
+    let fell_back = |direction: Vector| answer.is_some() && direction == Vector::ZERO;
+    row.0[row::NO_AXIS] = one_or_zero(fell_back(directions.axis));
+    row.0[row::NO_FORWARD] = one_or_zero(fell_back(directions.forward));
+    row
+}
+
+fn one_or_zero(yes: bool) -> Real {
+    if yes {
+        1.0
+    } else {
+        0.0
+    }
 }
 
 fn bodies_of(step: &Step) -> RigidBodySet {

@@ -21,6 +21,8 @@ pub enum Code {
     Read(u32),
     /// A read with the settled centre: change request 2026-02.
     ReadSettled(u32),
+    /// A read of all that there is, what fell back too: change request 2026-05.
+    ReadAll(u32),
 }
 
 /// A malformed place, with the code that it stands in; 0 if the code itself could not be read.
@@ -70,6 +72,7 @@ impl<'a> Reader<'a> {
                 Code::Add(NewWheel { roll_influence: Some(self.float()?), ..wheel })
             }
             8 => Code::ReadSettled(self.number()?),
+            9 => Code::ReadAll(self.number()?),
             _ => return Err(Broken),
         })
     }
@@ -245,6 +248,7 @@ impl Code {
             }
             Code::Read(wheel) => tokens.extend([Token::Whole(5), Token::Whole(*wheel)]),
             Code::ReadSettled(wheel) => tokens.extend([Token::Whole(8), Token::Whole(*wheel)]),
+            Code::ReadAll(wheel) => tokens.extend([Token::Whole(9), Token::Whole(*wheel)]),
         }
         tokens
     }

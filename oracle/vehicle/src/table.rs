@@ -77,7 +77,8 @@ pub struct Driven {
     pub grips: Vec<Grip>,
 }
 
-/// A wheel's demand, limit, skid and roll influence in an accepted drive.
+/// A wheel's demand, limit, skid and roll influence in an accepted drive, and what rule 7's directions
+/// were made of.
 #[derive(Copy, Clone, Debug, Default, PartialEq)]
 pub struct Grip {
     pub grounded: bool,
@@ -86,6 +87,11 @@ pub struct Grip {
     pub limit: Real,
     pub skid: Real,
     pub roll_influence: Real,
+    pub axle: Vector,
+    pub normal: Vector,
+    /// Of the axis and of the forward direction, in this drive and as stored before it.
+    pub fell_back: [bool; 2],
+    pub fell_back_before: [bool; 2],
 }
 
 impl Grip {
@@ -111,6 +117,10 @@ pub struct WheelRead {
     pub rotation: Real,
     /// Change request 2026-02: the source has no such number.
     pub settled: Vector,
+    /// Change request 2026-05: rule 7's axis fell back to zero in the last drive.
+    pub no_axis: bool,
+    /// Its forward direction did.
+    pub no_forward: bool,
 }
 
 impl Default for Table {
@@ -217,8 +227,9 @@ impl Table {
         if !fit || !driven.rows.iter().all(row_may_be_stored) {
             return refused(BAD_RESULT);
         }
-        for (grip, row) in grips.iter_mut().zip(&driven.rows) {
+        for ((grip, row), before) in grips.iter_mut().zip(&driven.rows).zip(&rows) {
             grip.skid = row.0[row::SKID];
+            grip.fell_back_before = before.fell_back();
         }
         self.store(&new, &driven.rows, MARK_DRIVEN);
         let Outcome { linear, angular, woken, .. } = driven;
@@ -234,6 +245,7 @@ impl Table {
         let row = self.row(wheel as usize);
         let hard_point = row.vector(row::HARD_POINT);
         let along = row.vector(row::WORLD_DIRECTION) * row.0[row::SUSPENSION_LENGTH];
+        let [no_axis, no_forward] = row.fell_back();
         WheelRead {
             answer,
             center: row.vector(row::CENTER),
@@ -246,6 +258,8 @@ impl Table {
             skid: row.0[row::SKID],
             rotation: row.0[row::ROTATION],
             settled: hard_point + along,
+            no_axis,
+            no_forward,
         }
     }
 
@@ -446,6 +460,10 @@ fn grip((row, answer): (&Row, &RayAnswer), dt: Real) -> Grip {
         limit: row.0[row::SUSPENSION_FORCE] * dt * row.0[row::SLIP],
         skid: row.0[row::SKID],
         roll_influence: row.0[row::ROLL_INFLUENCE],
+        axle: row.vector(row::WORLD_AXLE),
+        normal: row.vector(row::CONTACT_NORMAL),
+        fell_back: row.fell_back(),
+        fell_back_before: [false; 2],
     }
 }
 

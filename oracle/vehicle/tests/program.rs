@@ -41,7 +41,8 @@ fn scenarios_one_after_another() {
 
 #[test]
 fn unknown_codes_are_shown() {
-    assert_eq!(printed(&[0x06]), "vehicle 1\n6 9\n");
+    assert_eq!(printed(&[0x07]), "vehicle 1\n7 9\n");
+    assert_eq!(printed(&[0x0A, 0x00]), "vehicle 1\n10 9\n");
     assert_eq!(printed(&[0xFF, 0xFF, 0xFF, 0xFF, 0x0F]), "vehicle 1\n4294967295 9\n");
 }
 
@@ -96,6 +97,7 @@ fn codes_read_back() {
         Code::Drive(drive),
         Code::Read(300),
         Code::ReadSettled(300),
+        Code::ReadAll(300),
         Code::End,
     ];
     for code in codes {
@@ -112,6 +114,7 @@ fn a_short_scenario() {
         Code::Drive(drive),
         Code::Read(0),
         Code::ReadSettled(0),
+        Code::ReadAll(0),
         Code::End,
     ];
     let tokens: Vec<_> = codes.iter().flat_map(Code::tokens).collect();
@@ -124,9 +127,45 @@ fn a_short_scenario() {
     let mut read = format!("{}{zero} bf800000{zero}{}{one}", zero.repeat(3), zero.repeat(2));
     read += &format!("{zero} 40a00000{}{one}{zero}", zero.repeat(2));
     // With length 0 the wheel settles at its hard point.
-    let reads = format!("5 0{read}\n8 0{read}{}", zero.repeat(3));
+    let settled = format!("{read}{}", zero.repeat(3));
+    // It rolls: both directions are there.
+    let reads = format!("5 0{read}\n8 0{settled}\n9 0{settled}{}", zero.repeat(2));
     let text = printed(&bytes_of(&tokens)).replace("80000000", "00000000");
     assert_eq!(text, format!("vehicle 1\n1 0\n{aimed}\n{driven}\n{reads}\n0 0\n"));
+}
+
+/// Codes 5, 8 and 9 are one call: refused alike, and malformed alike.
+#[test]
+fn reads_are_refused_alike() {
+    let one_wheel = bytes_of(&Code::Add(bench::wheel()).tokens());
+    for code in [5, 8, 9] {
+        assert_eq!(printed(&[code, 0x00, 0x00]), format!("vehicle 1\n{code} 4\n0 0\n"));
+        assert_eq!(printed(&[code]), format!("vehicle 1\n{code} 9\n"));
+        let too_early = [&one_wheel[..], &[code, 0x00, 0x00]].concat();
+        assert_eq!(printed(&too_early), format!("vehicle 1\n1 0\n{code} 5\n0 0\n"));
+    }
+}
+
+/// Words behind the eighteen of code 8, 1 for a yes: an axle along the normal has neither direction; on a
+/// normal that is a little short it has an axis, and no forward direction.
+#[test]
+fn code_9_ends_with_what_fell_back() {
+    for (length, last) in [(1.0, [1, 1]), (0.9998, [0, 1])] {
+        let axle = bench::UP;
+        let normal = bench::UP * length;
+        let codes = [
+            Code::Add(vehicle::handed::NewWheel { axle, ..bench::wheel() }),
+            Code::Aim(bench::chassis()),
+            Code::Drive(bench::drive(&[vehicle::handed::Hit { normal, ..bench::hit() }])),
+            Code::ReadSettled(0),
+            Code::ReadAll(0),
+            Code::End,
+        ];
+        let tokens: Vec<_> = codes.iter().flat_map(Code::tokens).collect();
+        let lines = run(&bytes_of(&tokens));
+        let (settled, all) = (&lines[3].results, &lines[4].results);
+        assert_eq!((settled.len(), &all[..18], &all[18..]), (18, &settled[..], &last[..]));
+    }
 }
 
 #[test]

@@ -103,6 +103,35 @@ fn the_bound_itself_is_stored() {
     assert_eq!(table.read_wheel(0).center.x, -MOST_STORED);
 }
 
+/// What fell back is stored as 1 or 0, and any number but 0 reads as yes.
+#[test]
+fn any_stored_number_but_0_is_a_yes() {
+    let mut table = driven();
+    for (number, yes) in [
+        (0.0, false),
+        (-0.0, false),
+        (1.0, true),
+        (7.0, true),
+        (-3.0, true),
+        (f32::from_bits(1), true),
+        (-f32::from_bits(1), true),
+        (MOST_STORED, true),
+    ] {
+        for place in [row::NO_AXIS, row::NO_FORWARD] {
+            let mut table = table.clone();
+            table.numbers[row::CHASSIS + place] = number;
+            let read = table.read_wheel(0);
+            let said = (read.answer, read.no_axis, read.no_forward);
+            assert_eq!(said, (0, yes && place == row::NO_AXIS, yes && place == row::NO_FORWARD));
+        }
+    }
+    // A refused read says no.
+    table.numbers[row::CHASSIS + row::NO_AXIS] = NAN;
+    table.numbers[row::CHASSIS + row::NO_FORWARD] = 1.0;
+    let read = table.read_wheel(0);
+    assert_eq!((read.answer, read.no_axis, read.no_forward), (2, false, false));
+}
+
 #[test]
 fn stored_settings() {
     let settings = [

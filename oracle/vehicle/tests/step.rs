@@ -7,7 +7,7 @@ use vehicle::handed::{Chassis, Controls, Drive, GroundBody, Hit, NewWheel};
 use vehicle::math::{Pose, Rotation, Vector};
 use vehicle::row::{self, Row};
 use vehicle::step::{run_as_sent, Step};
-use vehicle::table::{Table, ACCEPTED, BAD_RESULT, MARK_AIMED};
+use vehicle::table::{Table, ACCEPTED, BAD_RESULT, MARK_AIMED, WRONG_MOMENT};
 
 #[test]
 fn an_aim_works_out_the_transforms() {
@@ -280,4 +280,138 @@ fn each_side_impulse_has_its_own_roll_influence() {
     assert_eq!(turned_by(Some(0.5), Some(0.25)), -0.375);
     // The source's own.
     assert_eq!(turned_by(None, None), turned_by(Some(0.1), Some(0.1)));
+}
+
+/// Whether the axis and the forward direction fell back, in a table of one wheel.
+fn fell_back(table: &Table) -> (bool, bool) {
+    let read = table.read_wheel(0);
+    assert_eq!(read.answer, ACCEPTED);
+    (read.no_axis, read.no_forward)
+}
+
+/// A wheel with this axle that brakes and drifts, after a hit with this normal.
+fn braked_on(axle: Vector, normal: Vector) -> Table {
+    let mut table = Table::new();
+    assert_eq!(table.add_wheel(&NewWheel { axle, ..wheel() }), ACCEPTED);
+    assert_eq!(table.set_controls(0, &Controls { brake: 5.0, ..controls() }), ACCEPTED);
+    let linear = Vector::new(3.0, 0.0, 4.0);
+    assert_eq!(table.aim(&Chassis { linear, ..chassis() }).answer, ACCEPTED);
+    assert_eq!(table.drive(&drive(&[Hit { normal, ..hit() }])).answer, ACCEPTED);
+    table
+}
+
+#[test]
+fn a_wheel_that_rolls_fell_back_nowhere() {
+    let table = braked_on(Vector::new(0.0, 0.0, 1.0), UP);
+    assert_eq!(fell_back(&table), (false, false));
+    assert_eq!(table.row(0).0[row::NO_AXIS..], [0.0, 0.0]);
+}
+
+/// The axle is the normal: the axis is y less y, zero, and nothing crossed with it has a direction.
+#[test]
+fn an_axle_along_the_normal_has_neither_direction() {
+    let table = braked_on(UP, UP);
+    assert_eq!(fell_back(&table), (true, true));
+    assert_eq!(table.row(0).0[row::NO_AXIS..], [1.0, 1.0]);
+    let read = table.read_wheel(0);
+    assert_eq!([read.forward_impulse, read.side_impulse], [0.0, 0.0]);
+}
+
+/// The engine's impulse is a number, 10 · dt, but it pushes along no direction: the chassis gains the
+/// spring's 5 upward and nothing else.
+#[test]
+fn an_engine_without_a_direction_pushes_nothing() {
+    let mut table = Table::new();
+    table.add_wheel(&NewWheel { axle: UP, ..wheel() });
+    table.set_controls(0, &Controls { engine: 10.0, ..controls() });
+    table.aim(&Chassis { linear: Vector::new(3.0, 0.0, 4.0), ..chassis() });
+    let driven = table.drive(&drive(&[hit()]));
+    assert_eq!((driven.answer, driven.linear), (ACCEPTED, Vector::new(3.0, 5.0, 4.0)));
+    assert_eq!(table.read_wheel(0).forward_impulse, 10.0);
+    assert_eq!(fell_back(&table), (true, true));
+}
+
+/// A normal a little shorter than 1: y less y · n² is left over, points along the normal, and is made an
+/// axis of length one; the normal crossed with it is zero.
+#[test]
+fn a_leftover_axis_along_the_normal_has_no_forward_direction() {
+    for length in [0.9998, 1.0002] {
+        let table = braked_on(UP, UP * length);
+        assert_eq!(fell_back(&table), (false, true), "{length}");
+        assert_eq!(table.row(0).0[row::NO_AXIS..], [0.0, 1.0]);
+        assert_eq!(table.read_wheel(0).forward_impulse, 0.0);
+    }
+}
+
+/// The square of 2^-75 is 2^-150, halfway from 0 to the smallest float, and ties go to even, to 0. That of
+/// the next float is rounded up, and the axle has a length again.
+#[test]
+fn an_axle_too_short_has_neither_direction() {
+    let last = f32::from_bits((127 - 75) << 23);
+    let next = f32::from_bits(last.to_bits() + 1);
+    for (size, dead) in [(1e-30, true), (f32::from_bits(1), true), (last, true), (next, false)] {
+        for axle in [Vector::new(size, 0.0, 0.0), Vector::new(0.0, 0.0, -size)] {
+            assert_eq!(fell_back(&braked_on(axle, UP)), (dead, dead), "{size:e}");
+        }
+    }
+    assert_eq!(fell_back(&braked_on(Vector::ZERO, UP)), (true, true));
+}
+
+/// A hit at time 0 with a zero normal, and no suspension direction to stand in for it: the axis is the
+/// axle, and the zero normal crossed with it is zero. The tyre holds to the side: 0.2 · 20 / 1.
+#[test]
+fn a_zero_normal_has_no_forward_direction() {
+    let mut table = Table::new();
+    table.add_wheel(&NewWheel { direction: Vector::ZERO, ..wheel() });
+    table.set_controls(0, &Controls { brake: 5.0, ..controls() });
+    table.aim(&Chassis { linear: Vector::new(3.0, 0.0, -20.0), ..chassis() });
+    let inside = Hit { time: 0.0, normal: Vector::ZERO, ..hit() };
+    let driven = table.drive(&drive(&[inside]));
+    assert_eq!((driven.answer, driven.linear), (ACCEPTED, Vector::new(3.0, 0.0, -16.0)));
+    assert_eq!(fell_back(&table), (false, true));
+    let read = table.read_wheel(0);
+    assert_eq!([read.forward_impulse, read.side_impulse], [0.0, 4.0]);
+}
+
+/// No call stores such a direction and axle. The normal is (0, 2^40, 0); the axle dot it is 2^80, and what
+/// is left of the axle has a part of about −2^120, whose square overflows.
+#[test]
+fn a_stored_axle_too_long_has_neither_direction() {
+    let most = 1_099_511_627_776.0;
+    let mut table = aimed();
+    let mut row: Row = table.row(0);
+    row.0[row::WORLD_DIRECTION + 1] = -most;
+    row.0[row::WORLD_AXLE..row::WORLD_AXLE + 3].copy_from_slice(&[most, most, 0.0]);
+    table.set_row(0, &row);
+    let inside = Hit { time: 0.0, normal: Vector::ZERO, ..hit() };
+    assert_eq!(table.drive(&drive(&[inside])).answer, ACCEPTED);
+    assert_eq!(fell_back(&table), (true, true));
+}
+
+/// A drive says it of itself alone: of a wheel that is in the air or rolls again it says no.
+#[test]
+fn what_fell_back_is_of_the_last_drive() {
+    let nothing = Drive { dt: 1.0, bodies: vec![], answers: vec![None] };
+    let ahead = Vector::new(1.0, 0.0, 0.0);
+    for next in [nothing, drive(&[Hit { normal: ahead, ..hit() }])] {
+        let mut table = braked_on(UP, UP);
+        // Controls and a refused drive leave it.
+        table.set_controls(0, &controls());
+        assert_eq!(table.drive(&next).answer, WRONG_MOMENT);
+        assert_eq!(fell_back(&table), (true, true));
+        // So does an aim, though no read may follow it.
+        table.aim(&chassis());
+        assert_eq!(table.row(0).0[row::NO_AXIS..], [1.0, 1.0]);
+        assert_eq!(table.drive(&next).answer, ACCEPTED);
+        assert_eq!(fell_back(&table), (false, false));
+    }
+}
+
+#[test]
+fn a_new_wheel_fell_back_nowhere() {
+    let mut table = Table::new();
+    table.add_wheel(&NewWheel { axle: Vector::ZERO, ..wheel() });
+    assert_eq!(table.row(0).0[row::NO_AXIS..], [0.0, 0.0]);
+    table.aim(&chassis());
+    assert_eq!(table.row(0).0[row::NO_AXIS..], [0.0, 0.0]);
 }
