@@ -1,15 +1,16 @@
 //! Where the settled centre of a read stood: beside the old centre, or elsewhere.
 
 use std::fmt;
+use std::ops::Range;
 
 use vehicle::program::Line;
 use vehicle::table::ACCEPTED;
 
-/// The code of a read with the settled centre, and where that one begins in its results.
-const READ_SETTLED: u32 = 8;
-const SETTLED: usize = 15;
+/// The codes of a read with the settled centre, and where that one stands in its results.
+const READ_SETTLED: [u32; 2] = [8, 9];
+const SETTLED: Range<usize> = 15..18;
 
-/// Accepted reads by code 8.
+/// Accepted reads by codes 8 and 9.
 #[derive(Clone, Debug, Default)]
 pub struct Centres {
     /// Both centres are one place, both zeros counted equal.
@@ -21,11 +22,11 @@ pub struct Centres {
 
 impl Centres {
     pub fn add(&mut self, line: &Line) {
-        if line.code != READ_SETTLED || line.answer != ACCEPTED {
+        if !READ_SETTLED.contains(&line.code) || line.answer != ACCEPTED {
             return;
         }
         let parts: Vec<f32> = line.results.iter().map(|word| f32::from_bits(*word)).collect();
-        let (old, settled) = (&parts[..3], &parts[SETTLED..]);
+        let (old, settled) = (&parts[..3], &parts[SETTLED]);
         if old == settled {
             self.same += 1;
         } else {

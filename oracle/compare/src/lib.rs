@@ -3,6 +3,7 @@
 
 mod centres;
 mod difference;
+mod directions;
 mod normals;
 mod rolls;
 mod runner;

@@ -7,6 +7,7 @@ use vehicle::program::Line;
 use vehicle::table::{ACCEPTED, MALFORMED};
 
 use crate::centres::Centres;
+use crate::directions::Directions;
 use crate::normals::Normals;
 use crate::rolls::Rolls;
 
@@ -14,7 +15,7 @@ use crate::rolls::Rolls;
 const ANSWERS: [u32; 12] = [0, 1, 2, 3, 4, 5, 6, 7, 8, 9, 10, 12];
 
 /// The codes that there are, and what each is called.
-const CODES: [(u32, &str); 8] = [
+const CODES: [(u32, &str); 9] = [
     (0, "end"),
     (1, "add"),
     (2, "controls"),
@@ -23,6 +24,7 @@ const CODES: [(u32, &str); 8] = [
     (5, "read"),
     (6, "add rolled"),
     (8, "read settled"),
+    (9, "read all"),
 ];
 
 /// Counts over all scenarios.
@@ -41,6 +43,7 @@ pub struct Tally {
     centres: Centres,
     normals: Normals,
     rolls: Rolls,
+    directions: Directions,
 }
 
 impl Tally {
@@ -52,6 +55,7 @@ impl Tally {
             self.centres.add(line);
             self.normals.add(line);
             self.rolls.add(line);
+            self.directions.add(line);
         }
     }
 
@@ -83,6 +87,7 @@ impl Tally {
         self.centres = self.centres.and(other.centres);
         self.normals = self.normals.and(other.normals);
         self.rolls = self.rolls.and(other.rolls);
+        self.directions = self.directions.and(other.directions);
         self
     }
 
@@ -128,7 +133,7 @@ impl fmt::Display for Tally {
             self.sliding, self.gripping, self.airborne
         )?;
         writeln!(out, "  sliding with a skid not below 1: {}", self.sliding_unscaled)?;
-        write!(out, "{}{}{}", self.centres, self.normals, self.rolls)?;
+        write!(out, "{}{}{}{}", self.centres, self.normals, self.rolls, self.directions)?;
         let seen = ANSWERS.map(|answer| format!("{answer}: {}", self.count(|_, a| a == answer)));
         writeln!(out, "answers          {}", seen.join(", "))
     }

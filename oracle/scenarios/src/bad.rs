@@ -108,6 +108,7 @@ fn spoil_count(random: &mut Random, code: &Code) -> Code {
         Code::Controls(_, controls) => Code::Controls(nowhere, *controls),
         Code::Read(_) => Code::Read(nowhere),
         Code::ReadSettled(_) => Code::ReadSettled(nowhere),
+        Code::ReadAll(_) => Code::ReadAll(nowhere),
         Code::Drive(drive) => {
             let mut drive = drive.clone();
             let hit = drive.answers.iter_mut().flatten().next();

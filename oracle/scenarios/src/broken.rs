@@ -119,7 +119,8 @@ fn one_whole_changed(random: &mut Random, tokens: &[Token]) -> Vec<u8> {
     bytes_of(&tokens)
 }
 
-/// An unknown code or a count over its limit, in place of one code.
+/// In place of one code an unknown one, a count over its limit, or a 9: that one reads, and takes the
+/// code behind it for its wheel.
 fn code_in_place(random: &mut Random, codes: &[Code]) -> Vec<u8> {
     let place = random.below(codes.len());
     let before: Vec<Token> = codes[..place].iter().flat_map(Code::tokens).collect();

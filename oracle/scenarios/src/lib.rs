@@ -4,6 +4,7 @@
 //! on every machine.
 #![forbid(unsafe_code)]
 
+mod axle;
 mod bad;
 mod broken;
 mod car;
@@ -19,8 +20,8 @@ mod wild;
 
 use random::Random;
 
+pub use axle::unbroken;
 pub use example::{drives, example, landing};
-pub use roll::unbroken;
 pub use rubbish::{rubbish, Rubbish};
 
 /// What a scenario is like.
@@ -38,11 +39,13 @@ pub enum Kind {
     Broken,
     /// The others with roll influences: adds by code 6.
     Roll,
+    /// The others with axles along the ground's normal or without a length: reads by code 9.
+    Axle,
 }
 
 impl Kind {
-    pub const ALL: [Kind; 6] =
-        [Kind::Car, Kind::Edge, Kind::Wild, Kind::Bad, Kind::Broken, Kind::Roll];
+    pub const ALL: [Kind; 7] =
+        [Kind::Car, Kind::Edge, Kind::Wild, Kind::Bad, Kind::Broken, Kind::Roll, Kind::Axle];
 
     pub fn name(self) -> &'static str {
         match self {
@@ -52,6 +55,7 @@ impl Kind {
             Kind::Bad => "bad",
             Kind::Broken => "broken",
             Kind::Roll => "roll",
+            Kind::Axle => "axle",
         }
     }
 
@@ -70,5 +74,6 @@ pub fn generate(kind: Kind, seed: u64) -> Vec<u8> {
         Kind::Bad => bad::scenario(&mut random, seed),
         Kind::Broken => broken::scenario(&mut random, seed),
         Kind::Roll => roll::scenario(&mut random, seed),
+        Kind::Axle => axle::scenario(&mut random, seed),
     }
 }

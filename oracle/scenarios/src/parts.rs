@@ -234,7 +234,7 @@ fn not_zero(number: f32) -> f32 {
     }
 }
 
-fn along_an_axis(random: &mut Random) -> Vector {
+pub fn along_an_axis(random: &mut Random) -> Vector {
     let size = random.pick(&[1.0, -1.0]);
     random.pick(&[
         Vector::new(size, 0.0, 0.0),

@@ -53,13 +53,8 @@ pub fn scenario(random: &mut Random, seed: u64) -> Vec<u8> {
     }
 }
 
-/// The stream that the first run of its faults breaks: every code stands in it.
-pub fn unbroken() -> Vec<u8> {
-    stream_of(&rolled_base(0))
-}
-
 /// The broken kind's codes; the last wheel has a roll influence.
-fn rolled_base(run: u64) -> Vec<Code> {
+pub fn rolled_base(run: u64) -> Vec<Code> {
     let mut codes = base_of(run);
     let last = codes.iter_mut().rev().find_map(|code| match code {
         Code::Add(wheel) => Some(wheel),
@@ -71,7 +66,8 @@ fn rolled_base(run: u64) -> Vec<Code> {
     codes
 }
 
-fn codes_of(stream: &[u8]) -> Vec<Code> {
+/// The codes of a stream, as far as it can be read.
+pub fn codes_of(stream: &[u8]) -> Vec<Code> {
     let mut reader = Reader::new(stream);
     std::iter::from_fn(|| reader.code().ok()).collect()
 }
@@ -110,20 +106,4 @@ pub fn good_roll(random: &mut Random) -> f32 {
 /// One that is never stored by a call.
 pub fn bad_roll(random: &mut Random) -> f32 {
     random.pick(&BAD)
-}
-
-#[cfg(test)]
-mod tests {
-    use super::*;
-    use vehicle::program;
-
-    /// Every code stands in it, and every call is accepted: a cut may fall in each of them.
-    #[test]
-    fn the_unbroken_stream_has_every_code() {
-        let lines = program::run(&unbroken());
-        assert!(lines.iter().all(|line| line.answer == 0));
-        for code in [0, 1, 2, 3, 4, 5, 6, 8] {
-            assert!(lines.iter().any(|line| line.code == code), "code {code}");
-        }
-    }
 }

@@ -1,13 +1,18 @@
 //! Tables of any contents with a few calls on them: demand 2 holds from every stored state.
 
-use vehicle::handed::Drive;
-use vehicle::row::{self, ROW, TABLE};
+use vehicle::handed::{Drive, Hit};
+use vehicle::math::Vector;
+use vehicle::row::{self, Row, ROW, TABLE, WHEELS};
 use vehicle::stream::{bytes_of, table_tokens, Code};
 use vehicle::table::Table;
 
-use crate::parts::{rotation, Size};
+use crate::axle::{a_read, long, tiny};
+use crate::parts::{along_an_axis, rotation, Size, MOST};
 use crate::random::Random;
 use crate::roll::{bad_roll, good_roll, rolled};
+
+/// 2^40: the greatest number that may be stored.
+const MOST_STORED: f32 = 1_099_511_627_776.0;
 
 /// A table and the codes to run on it.
 pub struct Rubbish {
@@ -45,6 +50,11 @@ fn table(random: &mut Random) -> Table {
     for wheel in 0..table.count as usize {
         fit_settings(random, size, &mut table, wheel);
     }
+    for wheel in 0..WHEELS {
+        let mut row = table.row(wheel);
+        fill_fall_backs(random, &mut row);
+        table.set_row(wheel, &row);
+    }
     if random.once_in(3) {
         spoil(random, &mut table);
     }
@@ -68,12 +78,39 @@ fn fit_settings(random: &mut Random, size: Size, table: &mut Table, wheel: usize
     row.0[row::ROLL_INFLUENCE] =
         if random.once_in(24) { bad_roll(random) } else { good_roll(random) };
     row.set_steering(rotation(random));
+    if random.once_in(2) {
+        odd_transforms(random, &mut row);
+    }
     table.set_row(wheel, &row);
+}
+
+/// What fell back, as no drive stores it: a read takes any number but 0 for a yes.
+fn fill_fall_backs(random: &mut Random, row: &mut Row) {
+    for place in [row::NO_AXIS, row::NO_FORWARD] {
+        let least = f32::from_bits(1);
+        row.0[place] =
+            random.pick(&[0.0, -0.0, 1.0, 1.0, -1.0, 7.0, 0.5, least, -least, MOST_STORED]);
+    }
+}
+
+/// A world direction, which stands in for a zero normal, and a world axle that may have no direction beside
+/// it. No aim stores the long ones: what is left of the axle has squares that overflow.
+fn odd_transforms(random: &mut Random, row: &mut Row) {
+    let mut odd = || match random.below(4) {
+        0 => tiny(random),
+        1 => along_an_axis(random),
+        2 => Vector::ZERO,
+        _ => long(random) * (MOST_STORED / MOST),
+    };
+    let direction = odd();
+    let axle = odd();
+    let axle = if random.once_in(4) { direction } else { axle };
+    row.0[row::WORLD_DIRECTION..][..3].copy_from_slice(&direction.parts());
+    row.0[row::WORLD_AXLE..][..3].copy_from_slice(&axle.parts());
 }
 
 /// A whole number that is not known, or a stored number that is bad.
 fn spoil(random: &mut Random, table: &mut Table) {
-    let most = 1_099_511_627_776.0f32; // 2^40
     match random.below(8) {
         0 => table.count = random.pick(&[16, 17, 255, u32::MAX]),
         1 => table.mark = random.pick(&[3, 4, u32::MAX]),
@@ -84,14 +121,25 @@ fn spoil(random: &mut Random, table: &mut Table) {
             table.numbers[place] = random.pick(&[
                 f32::NAN,
                 f32::INFINITY,
-                most,
-                -most,
-                f32::from_bits(most.to_bits() + 1),
+                MOST_STORED,
+                -MOST_STORED,
+                f32::from_bits(MOST_STORED.to_bits() + 1),
                 -1.0,
                 0.0,
             ]);
         }
     }
+}
+
+/// The drive with about half of its rays cast from inside the ground: the direction stands in for the
+/// normal.
+fn from_inside(random: &mut Random, mut drive: Drive) -> Drive {
+    for hit in drive.answers.iter_mut().flatten() {
+        if random.once_in(2) {
+            *hit = Hit { time: 0.0, normal: Vector::ZERO, upward_normal: None, ..*hit };
+        }
+    }
+    drive
 }
 
 fn codes(random: &mut Random, table: &Table) -> Vec<Code> {
@@ -100,17 +148,20 @@ fn codes(random: &mut Random, table: &Table) -> Vec<Code> {
     for _ in 0..1 + random.below(3) {
         let wheel = random.below(5) as u32;
         let wheels = (table.count as usize).min(row::WHEELS);
-        codes.push(match random.below(8) {
+        codes.push(match random.below(9) {
             0 => {
                 let wheel = size.wheel(random);
                 Code::Add(rolled(random, wheel))
             }
             1 => Code::Controls(wheel, size.controls(random)),
             2 | 3 => Code::Aim(size.chassis(random)),
-            4 | 5 => Code::Drive(size.drive(random, wheels)),
+            4 => Code::Drive(size.drive(random, wheels)),
+            5 => {
+                let drive = size.drive(random, wheels);
+                Code::Drive(from_inside(random, drive))
+            }
             6 => Code::Drive(Drive { dt: 0.0, bodies: vec![], answers: vec![None; wheels] }),
-            _ if random.once_in(4) => Code::Read(wheel),
-            _ => Code::ReadSettled(wheel),
+            _ => a_read(random, wheel),
         });
     }
     codes.push(Code::End);

@@ -142,6 +142,9 @@ impl<'a> Driving<'a> {
         }
         let directions: Vec<(Vector, Vector)> =
             (0..self.rows.len()).map(|wheel| self.directions(wheel)).collect();
+        for wheel in 0..self.rows.len() {
+            self.fall_backs(wheel);
+        }
         for (wheel, directions) in directions.iter().enumerate() {
             self.demands(wheel, *directions);
         }
@@ -228,6 +231,20 @@ impl<'a> Driving<'a> {
         let normal = row.vector(row::CONTACT_NORMAL);
         let axis = (axle - normal * axle.dot(normal)).normalize_or_zero();
         (axis, normal.cross(axis).normalize_or_zero())
+    }
+
+    /// Change request 2026-05: "Yes holds exactly where the fall-back was used; both are no for an airborne
+    /// wheel. The row keeps them as 1 or 0".
+    fn fall_backs(&mut self, wheel: usize) {
+        let grounded = self.grounded(wheel);
+        let row = &mut self.rows[wheel];
+        let axle = row.vector(row::WORLD_AXLE);
+        let normal = row.vector(row::CONTACT_NORMAL);
+        let left = axle - normal * axle.dot(normal);
+        let crossed = normal.cross(left.normalize_or_zero());
+        let kept = |vector| if grounded && falls_back(vector) { 1.0 } else { 0.0 };
+        row.0[row::NO_AXIS] = kept(left);
+        row.0[row::NO_FORWARD] = kept(crossed);
     }
 
     /// Rule 7: both demands.
@@ -344,6 +361,13 @@ impl<'a> Driving<'a> {
     }
 }
 
+/// "Normalise: r = 1/length; the vector times r if r is finite and above 0, else zero": whether it is the
+/// latter. The source's vectors do not say so but by being zero.
+fn falls_back(vector: Vector) -> bool {
+    let r = 1.0 / vector.dot(vector).sqrt();
+    !(r.is_finite() && r > 0.0)
+}
+
 /// Rule 3.
 fn ground_normal(hit: &Hit, direction: Vector) -> Vector {
     if hit.time != 0.0 {
@@ -407,6 +431,43 @@ fn tables_of_rubbish_follow_the_rules() {
     assert!(held > 1000, "{held}");
 }
 
+/// What the accepted drives of these codes said of their wheels: neither direction fell back, the forward
+/// one alone, both, the axis alone.
+fn said(mut table: Table, codes: &[Code]) -> [usize; 4] {
+    let mut counts = [0; 4];
+    for code in codes {
+        let line = call(&mut table, code);
+        let (Code::Drive(_), ACCEPTED) = (code, line.answer) else { continue };
+        for wheel in 0..table.count as usize {
+            let place = match table.row(wheel).0[row::NO_AXIS..] {
+                [0.0, 0.0] => 0,
+                [0.0, 1.0] => 1,
+                [1.0, 1.0] => 2,
+                [1.0, 0.0] => 3,
+                ref other => panic!("a drive stored {other:?}"),
+            };
+            counts[place] += 1;
+        }
+    }
+    counts
+}
+
+/// What is held above is held of each answer, and an axis alone never falls back: the normal crossed with
+/// zero is zero.
+#[test]
+fn drives_say_what_fell_back() {
+    let streams = (0..300).map(|seed| (Table::new(), codes_of(&generate(Kind::Axle, seed))));
+    let tables = (0..4000).map(rubbish).map(|scenarios::Rubbish { table, codes }| (table, codes));
+    let total = |counts: [usize; 4], (table, codes): (Table, Vec<Code>)| {
+        let more = said(table, &codes);
+        [0, 1, 2, 3].map(|place| counts[place] + more[place])
+    };
+    for (counts, least) in [(streams.fold([0; 4], total), 100), (tables.fold([0; 4], total), 5)] {
+        assert!(counts[..3].iter().all(|count| *count > least), "{counts:?}");
+        assert_eq!(counts[3], 0);
+    }
+}
+
 /// Change request 2026-02 from rule 1's text: in a table that the calls wrote, the settled centre is
 /// the centre that an aim at the kept chassis would give now, at the length of the drive.
 #[test]
@@ -417,11 +478,12 @@ fn settled_centres_follow_rule_1() {
             let mut table = Table::new();
             for code in codes_of(&generate(kind, seed)) {
                 let line = call(&mut table, &code);
-                if let (Code::ReadSettled(wheel), ACCEPTED) = (&code, line.answer) {
+                let (Code::ReadSettled(wheel) | Code::ReadAll(wheel)) = &code else { continue };
+                if line.answer == ACCEPTED {
                     let kept = table.numbers[..row::CHASSIS].try_into().expect("a chassis");
                     let aimed = aim(&table, &Chassis::from_numbers(kept));
                     let center = aimed.row(*wheel as usize).vector(row::CENTER);
-                    let settled = line.results[15..].iter().map(|word| f32::from_bits(*word));
+                    let settled = line.results[15..18].iter().map(|word| f32::from_bits(*word));
                     let settled: Vec<f32> = settled.collect();
                     assert_eq!(settled, center.parts(), "{} {seed}: {code:?}", kind.name());
                     held += 1;
