@@ -4,12 +4,12 @@
 //! Every frame hands its chassis in, so that a frame after a drive on other normals is the one that the
 //! other kind made.
 
-use vehicle::handed::{Drive, Hit, NewWheel, RayAnswer};
+use vehicle::handed::{Controls, Drive, Hit, NewWheel, RayAnswer};
 use vehicle::math::Vector;
 use vehicle::program;
 use vehicle::row;
 use vehicle::stream::Code;
-use vehicle::table::Table;
+use vehicle::table::{Table, MARK_DRIVEN};
 
 use crate::broken::with_a_fault;
 use crate::parts::{a_zero, along_an_axis, MOST};
@@ -39,8 +39,14 @@ pub fn scenario(random: &mut Random, seed: u64) -> Vec<u8> {
     let turn = seed / BASES.len() as u64;
     match BASES[(seed % BASES.len() as u64) as usize] {
         Kind::Broken => with_a_fault(random, turn, axle_base),
-        kind => stream_of(&with_axles(random, codes_of(&generate(kind, turn)))),
+        // Of five seeds of `roll` the last has a fault, and the codes of before it may be none.
+        Kind::Roll => changed(random, Kind::Roll, turn / 4 * 5 + turn % 4),
+        kind => changed(random, kind, turn),
     }
+}
+
+fn changed(random: &mut Random, kind: Kind, seed: u64) -> Vec<u8> {
+    stream_of(&with_axles(random, codes_of(&generate(kind, seed))))
 }
 
 /// The stream that the first run of its faults breaks: every code stands in it.
@@ -72,10 +78,24 @@ fn with_axles(random: &mut Random, codes: Vec<Code>) -> Vec<Code> {
             Code::Read(wheel) | Code::ReadSettled(wheel) => a_read(random, wheel),
             other => other,
         };
+        if matches!(code, Code::ReadAll(_)) && random.once_in(8) {
+            // Controls between a drive and a read leave what the read gives.
+            made.extend(same_controls(random, &table));
+        }
         program::call(&mut table, &code);
         made.push(code);
     }
     made
+}
+
+/// The controls that one wheel of a driven vehicle has, set once more.
+fn same_controls(random: &mut Random, table: &Table) -> Option<Code> {
+    let wheel = random.below(table.count.max(1) as usize);
+    let row = table.row(wheel);
+    let (engine, brake) = (row.0[row::ENGINE], row.0[row::BRAKE]);
+    let controls = Controls { engine, brake, steering: row.steering() };
+    let is_driven = table.mark == MARK_DRIVEN && table.count > 0;
+    is_driven.then_some(Code::Controls(wheel as u32, controls))
 }
 
 pub fn a_read(random: &mut Random, wheel: u32) -> Code {
