@@ -1,4 +1,5 @@
-/* A small car through set-up, aim, drive and read, and each refusal that a call can give: 1, 3, 4, 5, 6, 2, 12, 10, 7 and 8.
+/* A small car through set-up, aim, drive and read, tyres without a direction, and each refusal that a call can give: 1, 3, 4, 5, 6, 2, 12, 10,
+ * 7 and 8.
  *
  * It prints lines: a name, the number that the call answered, and each result as eight hex digits. host/run holds them to hand_worked.lines.
  * Those are worked out by hand from document 01, for which the car's numbers are chosen, and never taken from what a program prints. */
@@ -125,6 +126,13 @@ static void control_two(struct car *car)
     line("controls", set_controls(car, 1, 0, 6));
 }
 
+static void show_drive(uint32_t number, const float driven[VEHICLE_DRIVE_LEN])
+{
+    show("drive", number);
+    numbers(driven, VELOCITIES);
+    puts(driven[WAKE] == 1 ? " wake" : "");
+}
+
 /* An aim with this velocity, of which the first sight is shown, and a drive with what the rays met. */
 static void frame(struct car *car, float x, float z, uint32_t kind)
 {
@@ -132,9 +140,7 @@ static void frame(struct car *car, float x, float z, uint32_t kind)
     show("aim", aim_at(car, x, z, sights));
     numbers(sights, SPEED_AND_FIRST_SIGHT);
     putchar('\n');
-    show("drive", drive(car, kind, WHEELS, 0, driven));
-    numbers(driven, VELOCITIES);
-    puts(driven[WAKE] == 1 ? " wake" : "");
+    show_drive(drive(car, kind, WHEELS, 0, driven), driven);
 }
 
 static void show_wheel(const struct car *car, uint32_t wheel)
@@ -202,6 +208,70 @@ static void leans(void)
     line("roll influence 1 + 2^-23", add_leaning(&car, 1.00000011920928955078125f));
     line("roll influence -2^-20", add_leaning(&car, -1 / greatest));
     line("roll influence 2^21", add_leaning(&car, 2 * greatest));
+}
+
+/* ---- Tyres without a direction. ---- */
+
+/* A car of one wheel, at the origin, that brakes: its direction along y, its axle along y or along z, and its engine. */
+static void add_odd(struct car *car, float direction, int axle, float engine)
+{
+    float settings[VEHICLE_SETTINGS_LEN];
+    memcpy(settings, hanging, sizeof settings);
+    settings[DIRECTION + 1] = direction;
+    settings[AXLE + 2] = 0;
+    settings[axle] = 1;
+    settings[SLIP] = 8;
+    set_up(car, 1, 0);
+    add_wheel(car, settings);
+    set_controls(car, 0, engine, 6);
+}
+
+/* A frame at (12, 0, 5) on ground with this normal, straight up, and the wheel after it. */
+static void odd_frame(struct car *car, uint32_t kind, float time, float normal)
+{
+    float sights[VEHICLE_AIM_LEN], driven[VEHICLE_DRIVE_LEN] = {0};
+    aim_at(car, 12, 5, sights);
+    show_drive(drive_on(car, kind, time, normal, 1, 0, driven), driven);
+    show_wheel(car, 0);
+}
+
+/* An axle straight up, in three frames. Rule 7 each time: the axis is the axle less normal times (axle dot normal), made of length one, and
+ * the forward direction is normal times axis, made of length one.
+ * On a normal of length one nothing is left of the axle: (0, 1 - 1, 0). The axis falls back to zero, and with it the forward direction.
+ * Both demands are zero, on the brake too: the wheel's only impulse is its spring's, 16 * 0.5 upward, 2 on a mass of 4.
+ * Then it is in the air, and nothing falls back. Its centre has the length 0.5 of the frame before, the settled one the rest length.
+ * Then the normal n is 1 - 2^-13, and in the band: its square is 1 - 2^-12 + 2^-26, rounded to 1 - 2^-12. Rule 4's inverse is 1 / n, rounded
+ * to 1 + 2^-13, so that the force is 16 + 2^-9; times n it is 16 - 2^-22, rounded to 16, and the spring's impulse is 8 again. Of the axle
+ * 1 - (1 - 2^-12) is left, 2^-12 along y: it has a length, and the axis is (0, 1, 0). The normal times that is zero, so that the forward
+ * direction alone falls back. The tyre does not brake, but holds against what it takes for a drift, 2 upward: the side demand is
+ * -0.2 * 2 / (1/4), eight times the float next to -0.2, and a quarter of that taken from 2 leaves, rounded, the float next to 1.6. */
+static void upright_axle(void)
+{
+    struct car car = {{0}, {0}};
+    add_odd(&car, -1, AXLE + 1, 0);
+    odd_frame(&car, VEHICLE_HIT, 0.75f, 1);
+    odd_frame(&car, VEHICLE_NOTHING, 0, 0);
+    odd_frame(&car, VEHICLE_HIT, 0.75f, 1 - 1.0f / 8192);
+}
+
+/* The first frame of the same wheel with an engine: the forward impulse is 12 * 0.5, a number, and the velocity is that of before, since it
+ * has no direction. */
+static void engine_without_direction(void)
+{
+    struct car car = {{0}, {0}};
+    add_odd(&car, -1, AXLE + 1, 12);
+    odd_frame(&car, VEHICLE_HIT, 0.75f, 1);
+}
+
+/* A suspension without a direction, in a hit at time 0 with a zero normal: rule 3 takes minus the direction, zero. Rule 4: normal dot
+ * direction is 0, so the inverse is 10; the length is -1, clamped to 0.5. The force is 8 * 0.5 * 10 * 4, 160, and pushes along no normal.
+ * The axis is the axle, (0, 0, 1); the forward direction, zero times that, falls back. The tyre does not brake, but holds to the side:
+ * -0.2 * 5 / (1/4), -4, takes 1 of the drift of 5. */
+static void no_suspension(void)
+{
+    struct car car = {{0}, {0}};
+    add_odd(&car, 0, AXLE + 2, 0);
+    odd_frame(&car, VEHICLE_HIT, 0, 0);
 }
 
 /* ---- Each refusal number, met by a call. ---- */
@@ -315,6 +385,9 @@ int main(void)
     control_two(&car);
     two_frames(&car);
     leans();
+    upright_axle();
+    engine_without_direction();
+    no_suspension();
     refused_set_up(&car);
     refused_controls(&car);
     refused_moments(&car);

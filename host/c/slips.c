@@ -13,6 +13,10 @@ uint32_t proved_vehicle_read_wheel(const float *, size_t, const uint32_t *, size
 #define MARK 1
 #define AIMED 1
 
+/* The last two numbers of a wheel's row. */
+#define ROW ((VEHICLE_TABLE_LEN - VEHICLE_CHASSIS_LEN) / VEHICLE_MOST_WHEELS)
+#define FELL_BACK(table, wheel) ((table) + VEHICLE_CHASSIS_LEN + ((wheel) + 1) * ROW - 2)
+
 uint32_t vehicle_add_wheel(float *table, size_t table_len, uint32_t *whole, size_t whole_len, const float *settings, size_t settings_len)
 {
 #if SLIP == 1 /* settings that are too long are taken, as far as they go */
@@ -73,7 +77,19 @@ uint32_t vehicle_drive(float *table, size_t table_len, uint32_t *whole, size_t w
     if (results_len == VEHICLE_DRIVE_LEN && kinds_len > VEHICLE_MOST_WHEELS)
         return VEHICLE_BAD_LISTS;
 #endif
+#if SLIP == 14 /* of a wheel in the air it is kept what the drive before said of its directions */
+    float before[VEHICLE_MOST_WHEELS][2] = {{0}};
+    size_t wheel;
+    if (table_len == VEHICLE_TABLE_LEN)
+        for (wheel = 0; wheel < VEHICLE_MOST_WHEELS; wheel++)
+            memcpy(before[wheel], FELL_BACK(table, wheel), sizeof before[wheel]);
+#endif
     number = proved_vehicle_drive(table, table_len, whole, whole_len, dt, bodies, bodies_len, dynamic, dynamic_len, kinds, kinds_len, named, named_len, rays, rays_len, results, results_len);
+#if SLIP == 14
+    for (wheel = 0; number == 0 && wheel < kinds_len; wheel++)
+        if (kinds[wheel] == VEHICLE_NOTHING)
+            memcpy(FELL_BACK(table, wheel), before[wheel], sizeof before[wheel]);
+#endif
 #if SLIP == 7 /* a refusal clears the results */
     if (number != 0)
         memset(results, 0, results_len * sizeof *results);
@@ -101,6 +117,13 @@ uint32_t vehicle_read_wheel(const float *table, size_t table_len, const uint32_t
 #if SLIP == 11 /* the old centre in the settled one's place: every tyre a frame late */
     if (number == 0)
         memcpy(results + VEHICLE_READ_SETTLED, results, 3 * sizeof *results);
+#endif
+#if SLIP == 13 /* what fell back: the axis and the forward direction exchanged */
+    if (number == 0) {
+        float no_axis = results[VEHICLE_READ_NO_AXIS];
+        results[VEHICLE_READ_NO_AXIS] = results[VEHICLE_READ_NO_FORWARD];
+        results[VEHICLE_READ_NO_FORWARD] = no_axis;
+    }
 #endif
 #if SLIP == 10 /* looks one number beyond the table */
     {

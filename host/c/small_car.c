@@ -109,6 +109,7 @@ static void frames(struct car *car)
     CHECK(are(tyre, 1, 0, 1) && tyre[9] == 0.5f && tyre[10] == 16);
     CHECK(are(tyre + VEHICLE_READ_SETTLED, 1, -0.5f, 1));
     CHECK(tyre[11] == 3 && tyre[12] == -2 && tyre[13] == 0.5f && tyre[14] == 6);
+    CHECK(tyre[VEHICLE_READ_NO_AXIS] == 0 && tyre[VEHICLE_READ_NO_FORWARD] == 0);
     CHECK(read_wheel(car, 3, tyre) == VEHICLE_ACCEPTED && tyre[13] == 1);
     CHECK(read_wheel(car, WHEELS, tyre) == VEHICLE_NO_SUCH_WHEEL);
 
@@ -117,6 +118,28 @@ static void frames(struct car *car)
     CHECK(are(driven, -12, 0, 5));
     CHECK(read_wheel(car, 0, tyre) == VEHICLE_ACCEPTED && are(tyre, 1, -0.5f, 1) && tyre[9] == 1);
     CHECK(are(tyre + VEHICLE_READ_SETTLED, 1, -1, 1));
+}
+
+/* The first wheel's axle lies along the ground's normal: it has no direction on the ground, and the others have one. */
+static void dead_tyre(void)
+{
+    struct car car = {{0}, {0}};
+    float wheel[VEHICLE_SETTINGS_LEN] = {0, 0, 0, 0, -1, 0, 0, 1, 0, 1, 1, 8, 2, 2, 0.5f, 1, 8, 1024, VEHICLE_ROLL_INFLUENCE};
+    float sights[VEHICLE_AIM_LEN], driven[VEHICLE_DRIVE_LEN], tyre[VEHICLE_READ_LEN];
+    int i;
+    CHECK(set_up(&car, 1, 0) == VEHICLE_ACCEPTED);
+    for (i = 0; i < WHEELS; i++) {
+        CHECK(add_wheel(&car, wheel) == VEHICLE_ACCEPTED);
+        wheel[7] = 0; /* axle */
+        wheel[8] = 1;
+    }
+    CHECK(aim(&car, 12, 5, sights) == VEHICLE_ACCEPTED);
+    CHECK(drive(&car, 0.5f, VEHICLE_HIT, driven) == VEHICLE_ACCEPTED);
+    CHECK(read_wheel(&car, 0, tyre) == VEHICLE_ACCEPTED);
+    CHECK(tyre[VEHICLE_READ_NO_AXIS] == 1 && tyre[VEHICLE_READ_NO_FORWARD] == 1);
+    CHECK(tyre[11] == 0 && tyre[12] == 0);
+    CHECK(read_wheel(&car, 1, tyre) == VEHICLE_ACCEPTED);
+    CHECK(tyre[VEHICLE_READ_NO_AXIS] == 0 && tyre[VEHICLE_READ_NO_FORWARD] == 0);
 }
 
 /* Each refusal leaves the car and the results as they were, bit for bit. */
@@ -146,6 +169,7 @@ int main(void)
     sizes();
     build(car);
     frames(car);
+    dead_tyre();
     refusals(car);
     CHECK(vehicle_root(4) == 2);
     free(car);

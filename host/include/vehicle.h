@@ -26,17 +26,19 @@ extern "C" {
 
 /* ---- Sizes, in numbers. The functions vehicle_..._len, at the end, give the library's own. ---- */
 
-#define VEHICLE_TABLE_LEN 858   /* the table */
-#define VEHICLE_WHOLE_LEN 4     /* the whole numbers beside it */
-#define VEHICLE_SETTINGS_LEN 19 /* what vehicle_add_wheel takes */
-#define VEHICLE_CONTROLS_LEN 6  /* what vehicle_set_controls takes */
-#define VEHICLE_CHASSIS_LEN 26  /* what vehicle_aim takes */
-#define VEHICLE_AIM_LEN 97      /* what vehicle_aim gives */
-#define VEHICLE_BODY_LEN 16     /* one ground body */
-#define VEHICLE_RAY_LEN 7       /* one ray answer */
-#define VEHICLE_DRIVE_LEN 7     /* what vehicle_drive gives */
-#define VEHICLE_READ_LEN 18     /* what vehicle_read_wheel gives */
-#define VEHICLE_READ_SETTLED 15 /* where in it the settled centre begins */
+#define VEHICLE_TABLE_LEN 890      /* the table */
+#define VEHICLE_WHOLE_LEN 4        /* the whole numbers beside it */
+#define VEHICLE_SETTINGS_LEN 19    /* what vehicle_add_wheel takes */
+#define VEHICLE_CONTROLS_LEN 6     /* what vehicle_set_controls takes */
+#define VEHICLE_CHASSIS_LEN 26     /* what vehicle_aim takes */
+#define VEHICLE_AIM_LEN 97         /* what vehicle_aim gives */
+#define VEHICLE_BODY_LEN 16        /* one ground body */
+#define VEHICLE_RAY_LEN 7          /* one ray answer */
+#define VEHICLE_DRIVE_LEN 7        /* what vehicle_drive gives */
+#define VEHICLE_READ_LEN 20        /* what vehicle_read_wheel gives */
+#define VEHICLE_READ_SETTLED 15    /* where in it the settled centre begins */
+#define VEHICLE_READ_NO_AXIS 18    /* where in it 1 stands if the tyre has no axis on the ground, else 0 */
+#define VEHICLE_READ_NO_FORWARD 19 /* where in it 1 stands if the tyre has no rolling direction, else 0 */
 #define VEHICLE_MOST_WHEELS 16
 #define VEHICLE_MOST_BODIES 64
 
@@ -124,10 +126,18 @@ uint32_t vehicle_drive(float *table, size_t table_len, uint32_t *whole, size_t w
 
 /* Reads one wheel of a vehicle that was driven. It changes nothing but the results.
  * results, VEHICLE_READ_LEN: centre (3); direction (3) and axle (3) in the world; suspension length; suspension force; forward impulse; side
- * impulse; skid, below 1 if the tyre slides; rotation; settled centre (3).
+ * impulse; skid, below 1 if the tyre slides; rotation; settled centre (3); no axis; no forward direction.
  * Draw the tyre at the settled centre, results + VEHICLE_READ_SETTLED: the hard point plus the direction times the length that this drive
  * gave. The first centre is the Rust source's, which has the length of the drive before: drawn, it is a frame late. It is there to be
  * compared with the source's numbers. The settled one is always finite, and has no other bound.
+ * No axis and no forward direction are 1 or 0, both 0 for a wheel in the air, and say why a tyre on the ground is dead.
+ * No axis is 1 where the axle has no direction on the ground: it lies along the ground's normal, or is too short (below about 2^-75, so that
+ * its square is 0), or, in a table that no call wrote, too long. The tyre then has neither a side nor a rolling direction, and with no
+ * engine force both its impulses are 0.
+ * No forward direction is 1 where the tyre has no rolling direction. It never has one without an axis. It alone is 1 where what is left of
+ * the axle points along the normal, since that is not exactly of length one, or where the normal is zero: a hit at time 0 with a zero
+ * normal, of a wheel whose suspension has a zero direction. The tyre does not roll or brake, but may still hold to the side.
+ * An engine force gives a forward impulse all the same, but it pushes nothing, since its direction is zero.
  * Refuses, the first that holds: 1; 4; 5; 2. */
 uint32_t vehicle_read_wheel(const float *table, size_t table_len, const uint32_t *whole, size_t whole_len, uint32_t wheel, float *results, size_t results_len);
 

@@ -6,7 +6,7 @@
 
 /// The lengths of what is lent and handed in, and the places in it. `tests/sizes.rs` holds them to the library's own.
 pub mod len {
-    pub const TABLE: usize = 858;
+    pub const TABLE: usize = 890;
     pub const WHOLE: usize = 4;
     pub const SETTINGS: usize = 19;
     pub const CONTROLS: usize = 6;
@@ -17,7 +17,7 @@ pub mod len {
     pub const RAY: usize = 7;
     pub const AIM: usize = 97;
     pub const DRIVE: usize = 7;
-    pub const READ: usize = 18;
+    pub const READ: usize = 20;
     /// The most wheels of a vehicle, and the most ground bodies of a drive.
     pub const WHEELS: usize = 16;
     pub const BODIES: usize = 64;
@@ -238,7 +238,8 @@ pub fn drive(
     }
 }
 
-/// Reads a wheel. `results`: centre, direction, axle (3 each), length, force, forward, side, skid, rotation.
+/// Reads a wheel. `results`: centre, direction, axle (3 each), length, force, forward, side, skid, rotation, settled centre (3), no axis, no
+/// forward direction (1 or 0 each).
 pub fn read_wheel(table: &[f32], whole: &[u32], wheel: u32, results: &mut [f32]) -> u32 {
     // SAFETY: as in `set_up`; the library reads the table and the whole numbers, and writes to the results alone.
     unsafe {

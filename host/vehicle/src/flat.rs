@@ -140,5 +140,7 @@ pub fn reading(results: &[f32; len::READ]) -> Reading {
         skid: results[13],
         rotation: results[14],
         settled: vector(results, 15),
+        no_axis: results[18] == 1.0,
+        no_forward: results[19] == 1.0,
     }
 }

@@ -238,4 +238,13 @@ pub struct Reading {
     pub rotation: f32,
     /// The settled centre, where the tyre is drawn: at this drive's length.
     pub settled: Vector,
+    /// The axle has no direction on the ground: it lies along the ground's normal, or is too short (below about 2^-75, so that its square is
+    /// 0), or, in a table that no call wrote, too long. The tyre then has neither a side nor a rolling direction, and with no engine force
+    /// both its impulses are zero: a dead tyre. An engine force gives a forward impulse all the same, but it pushes nothing, since its
+    /// direction is zero. Never so for a wheel in the air.
+    pub no_axis: bool,
+    /// The tyre has no rolling direction. Always so without an axis. It alone is so where what is left of the axle points along the normal,
+    /// since that is not exactly of length one, or where the normal is zero: a hit at time 0 with a zero normal, of a wheel whose suspension
+    /// has a zero direction. The tyre does not roll or brake, but may still hold to the side. Never so for a wheel in the air.
+    pub no_forward: bool,
 }

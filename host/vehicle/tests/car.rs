@@ -139,6 +139,41 @@ fn each_wheel_leans_by_its_own_roll_influence() -> Result<(), Refusal> {
     Ok(())
 }
 
+/// One wheel with this axle that brakes, on a chassis that moves by (12, 0, 5), and its ground. Worked out in host/c/hand_worked.c.
+#[test]
+fn a_tyre_without_a_direction_says_so() -> Result<(), Refusal> {
+    let read = |axle: Vector, controls: Controls, ground: RayAnswer| {
+        let mut car = Vehicle::new(Axis::Y, Axis::X)?;
+        car.add_wheel(&WheelSettings { axle, ..wheel(0.0, 0.0, 8.0) })?;
+        car.set_controls(0, &controls)?;
+        let driven = car.aim(&chassis(Vector::new(12.0, 0.0, 5.0)))?.drive(0.5, &[], &[ground])?;
+        Ok::<_, Refusal>((driven.velocity().linear, driven.read(0)?))
+    };
+    let brake = Controls { brake: 6.0, ..Controls::default() };
+    let floor_of =
+        |length| RayAnswer::Hit { time: 0.75, normal: Vector::new(0.0, length, 0.0), body: None };
+    let (_, rolls) = read(Vector::new(0.0, 0.0, 1.0), brake, FLOOR)?;
+    assert_eq!((rolls.no_axis, rolls.no_forward, rolls.forward), (false, false, -6.0));
+    // The axle is the normal: neither direction, and no impulse but the spring's.
+    let (moved, dead) = read(UP, brake, FLOOR)?;
+    assert_eq!((dead.no_axis, dead.no_forward), (true, true));
+    assert_eq!((dead.forward, dead.side, dead.force), (0.0, 0.0, 16.0));
+    assert_eq!(moved, Vector::new(12.0, 2.0, 5.0));
+    // An engine's impulse is a number, and pushes nothing.
+    let engine = Controls { engine: 12.0, ..Controls::default() };
+    let (moved, dead) = read(UP, engine, FLOOR)?;
+    assert_eq!((dead.no_axis, dead.no_forward, dead.forward), (true, true, 6.0));
+    assert_eq!(moved, Vector::new(12.0, 2.0, 5.0));
+    // A normal of 1 - 2^-13: what is left of the axle points along it.
+    let (_, left) = read(UP, brake, floor_of(1.0 - 1.0 / 8192.0))?;
+    assert_eq!((left.no_axis, left.no_forward, left.forward), (false, true, 0.0));
+    let (_, short) = read(Vector::new(1e-30, 0.0, 0.0), brake, FLOOR)?;
+    assert_eq!((short.no_axis, short.no_forward), (true, true));
+    let (_, air) = read(UP, brake, RayAnswer::Nothing)?;
+    assert_eq!((air.no_axis, air.no_forward), (false, false));
+    Ok(())
+}
+
 #[test]
 fn the_plain_calls_refuse_at_a_wrong_moment() -> Result<(), Refusal> {
     let mut car = car()?;

@@ -37,6 +37,8 @@ fn sizes_here_are_those_of_the_library_and_the_header() {
         assert_eq!(here, library as usize, "{name}");
         assert_eq!(here, macro_value(name), "{name}");
     }
+    assert_eq!(len::READ - 2, macro_value("VEHICLE_READ_NO_AXIS"));
+    assert_eq!(len::READ - 1, macro_value("VEHICLE_READ_NO_FORWARD"));
     assert_eq!(len::WHEELS, macro_value("VEHICLE_MOST_WHEELS"));
     assert_eq!(len::BODIES, macro_value("VEHICLE_MOST_BODIES"));
     assert_eq!(kind::NOTHING as usize, macro_value("VEHICLE_NOTHING"));
@@ -75,4 +77,50 @@ fn each_number_lands_at_its_place() {
     // Settings and controls stand together in a row, in the order in which they are handed in.
     assert_eq!(row[19..38], settings, "settings");
     assert_eq!(row[38..44], controls, "controls");
+}
+
+/// The last two numbers of the first wheel's row, as 1 and 0, and those of its read: any stored number but 0 is a yes.
+#[test]
+fn what_fell_back_stands_last_in_a_row_and_in_a_read() {
+    let (mut table, mut whole) = ([0.0; len::TABLE], [0; len::WHOLE]);
+    assert_eq!(ffi::set_up(&mut table, &mut whole, 1, 0), 0);
+    // An axle along the ground's normal, and then the same wheel in the air.
+    let settings = [
+        0.0, 0.0, 0.0, 0.0, -1.0, 0.0, 0.0, 1.0, 0.0, 1.0, 1.0, 8.0, 2.0, 2.0, 0.5, 1.0, 1.0, 64.0,
+        0.1,
+    ];
+    assert_eq!(ffi::add_wheel(&mut table, &mut whole, &settings), 0);
+    let mut chassis = [0.0; len::CHASSIS];
+    chassis[6] = 1.0;
+    chassis[16..20].fill(0.25);
+    let row = (len::TABLE - len::CHASSIS) / len::WHEELS;
+    let last = len::CHASSIS + row - 2..len::CHASSIS + row;
+    assert_eq!(table[last.clone()], [0.0, 0.0], "a new wheel");
+    let ray = [0.75, 0.0, 1.0, 0.0, 0.0, 0.0, 0.0];
+    for (kind, expected) in [(kind::HIT, [1.0, 1.0]), (kind::NOTHING, [0.0, 0.0])] {
+        let (mut sights, mut driven) = ([0.0; len::AIM], [0.0; len::DRIVE]);
+        assert_eq!(ffi::aim(&mut table, &mut whole, &chassis, &mut sights), 0);
+        let answer =
+            ffi::drive(&mut table, &mut whole, 0.5, &[], &[], &[kind], &[0], &ray, &mut driven);
+        assert_eq!(answer, 0);
+        assert_eq!(table[last.clone()], expected);
+        assert_eq!(read(&table, &whole), expected);
+    }
+    for (stored, given) in
+        [(0.0, 0.0), (-0.0, 0.0), (7.0, 1.0), (-3.0, 1.0), (f32::from_bits(1), 1.0)]
+    {
+        table[last.start] = stored;
+        assert_eq!(read(&table, &whole), [given, 0.0], "{stored:e}");
+        table[last.start + 1] = stored;
+        table[last.start] = 0.0;
+        assert_eq!(read(&table, &whole), [0.0, given], "{stored:e}");
+        table[last.start + 1] = 0.0;
+    }
+}
+
+/// What the read of wheel 0 ends with.
+fn read(table: &[f32], whole: &[u32]) -> [f32; 2] {
+    let mut results = [0.0; len::READ];
+    assert_eq!(ffi::read_wheel(table, whole, 0, &mut results), 0);
+    [results[len::READ - 2], results[len::READ - 1]]
 }
