@@ -12,14 +12,16 @@ impl DynamicRayCastVehicleController {
             self.current_vehicle_speed *= -1.0;
         }
     }
-}
 
-impl Wheel {
-    /// What a read gives. The file has no settled centre: it is worked out here from its numbers.
-    pub fn reading(&self) -> [Real; 18] {
-        let [centre, direction, axle] = [self.center, self.wheel_direction_ws, self.wheel_axle_ws].map(Vector::parts);
-        let info = &self.raycast_info;
-        let settled = (info.hard_point_ws + self.wheel_direction_ws * info.suspension_length).parts();
+    /// What a read gives. The file has no settled centre, and does not say what fell back: both are worked out here from its numbers.
+    pub fn reading(&self, wheel: usize) -> [Real; 20] {
+        let fell_back = [self.axle[wheel], self.forward_ws[wheel]].map(|direction| direction == Vector::ZERO);
+        let wheel = &self.wheels[wheel];
+        let [centre, direction, axle] = [wheel.center, wheel.wheel_direction_ws, wheel.wheel_axle_ws].map(Vector::parts);
+        let info = &wheel.raycast_info;
+        let settled = (info.hard_point_ws + wheel.wheel_direction_ws * info.suspension_length).parts();
+        let on_the_ground = info.ground_object.is_some();
+        let [no_axis, no_forward] = fell_back.map(|fell_back| if on_the_ground && fell_back { 1.0 } else { 0.0 });
         [
             centre[0],
             centre[1],
@@ -30,15 +32,17 @@ impl Wheel {
             axle[0],
             axle[1],
             axle[2],
-            self.raycast_info.suspension_length,
-            self.wheel_suspension_force,
-            self.forward_impulse,
-            self.side_impulse,
-            self.skid_info,
-            self.rotation,
+            wheel.raycast_info.suspension_length,
+            wheel.wheel_suspension_force,
+            wheel.forward_impulse,
+            wheel.side_impulse,
+            wheel.skid_info,
+            wheel.rotation,
             settled[0],
             settled[1],
             settled[2],
+            no_axis,
+            no_forward,
         ]
     }
 }

@@ -46,7 +46,7 @@ impl Lent {
                     &mut results,
                 )
             }
-            Code::Read(wheel) | Code::ReadSettled(wheel) => {
+            Code::Read(wheel) | Code::ReadSettled(wheel) | Code::ReadAll(wheel) => {
                 ffi::read_wheel(table, whole, *wheel, &mut results)
             }
         };
@@ -76,15 +76,16 @@ fn result_size(code: &Code) -> usize {
     match code {
         Code::Aim(_) => len::AIM,
         Code::Drive(_) => len::DRIVE,
-        Code::Read(_) | Code::ReadSettled(_) => len::READ,
+        Code::Read(_) | Code::ReadSettled(_) | Code::ReadAll(_) => len::READ,
         _ => 0,
     }
 }
 
-/// How many of the results the code has in the stream: code 5 leaves the settled centre out.
+/// How many of the results the code has in the stream: code 8 leaves out what fell back, code 5 the settled centre too.
 fn printed(code: &Code) -> usize {
     match code {
-        Code::Read(_) => len::READ - 3,
+        Code::Read(_) => len::READ - 2 - 3,
+        Code::ReadSettled(_) => len::READ - 2,
         _ => result_size(code),
     }
 }

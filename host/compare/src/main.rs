@@ -19,7 +19,7 @@ use scenarios::Kind;
 use tally::Tally;
 
 /// `broken` is left out: it is about the stream, which this comparison does not read.
-const KINDS: [Kind; 5] = [Kind::Car, Kind::Edge, Kind::Wild, Kind::Bad, Kind::Roll];
+const KINDS: [Kind; 6] = [Kind::Car, Kind::Edge, Kind::Wild, Kind::Bad, Kind::Roll, Kind::Axle];
 
 fn main() -> ExitCode {
     let Some((seeds, from)) = arguments() else {
@@ -115,13 +115,16 @@ fn run(mut table: Table, mut lent: Lent, codes: &[Code], tally: &mut Tally) -> R
     Ok(())
 }
 
-/// The oracle's results as the library has them: the wake is a float, and an aim gives zeros for the wheels that are not there.
+/// The oracle's results as the library has them: a yes or no is a float, and an aim gives zeros for the wheels that are not there.
 fn results_of(code: &Code, words: &[u32], size: usize) -> Vec<f32> {
-    let mut results: Vec<f32> = words.iter().map(|word| f32::from_bits(*word)).collect();
-    if let (Code::Drive(_), Some(wake)) = (code, words.last()) {
-        results.pop();
-        results.push(*wake as f32);
-    }
+    let yes_or_no = match code {
+        Code::Drive(_) => 1,
+        Code::ReadAll(_) => 2,
+        _ => 0,
+    };
+    let (floats, flags) = words.split_at(words.len().saturating_sub(yes_or_no));
+    let floats = floats.iter().map(|word| f32::from_bits(*word));
+    let mut results: Vec<f32> = floats.chain(flags.iter().map(|flag| *flag as f32)).collect();
     results.resize(size, 0.0);
     results
 }
@@ -142,6 +145,7 @@ pub fn name(code: &Code) -> &'static str {
         Code::Drive(_) => "drive",
         Code::Read(_) => "read",
         Code::ReadSettled(_) => "read settled",
+        Code::ReadAll(_) => "read all",
     }
 }
 

@@ -14,6 +14,8 @@ pub struct Tally {
     airborne: u64,
     gripping: u64,
     sliding: u64,
+    /// Accepted reads by code 9: neither direction fell back, the forward one alone, both, the axis alone.
+    fell_back: [u64; 4],
 }
 
 impl Tally {
@@ -26,6 +28,15 @@ impl Tally {
                 (true, true) => &mut self.sliding,
             };
             *kind += 1;
+        }
+        if let (Code::ReadAll(_), [.., no_axis, no_forward]) = (code, &line.results[..]) {
+            let place = match (no_axis, no_forward) {
+                (0, 0) => 0,
+                (0, _) => 1,
+                (_, 0) => 3,
+                _ => 2,
+            };
+            self.fell_back[place] += 1;
         }
     }
 
@@ -40,6 +51,8 @@ impl fmt::Display for Tally {
             writeln!(f, "{call:>12} {number:>2}: {times}")?;
         }
         let Tally { airborne, gripping, sliding, .. } = self;
-        writeln!(f, "wheels of accepted drives: {sliding} sliding, {gripping} gripping, {airborne} airborne")
+        writeln!(f, "wheels of accepted drives: {sliding} sliding, {gripping} gripping, {airborne} airborne")?;
+        let [neither, forward, both, axis] = self.fell_back;
+        writeln!(f, "reads of all: {neither} with both directions, {forward} without the forward one alone, {both} without either; {axis} without the axis alone, from stored rubbish")
     }
 }
