@@ -29,7 +29,7 @@ const LAST_WITHOUT_A_SQUARE: f32 = f32::from_bits((127 - 75) << 23);
 const LENGTHS: [f32; 6] = [
     0.9998,
     1.0002,
-    0.999_6,
+    0.9996,
     1.0004,
     f32::from_bits(0x3F7F_FFFF), // the next below 1
     f32::from_bits(0x3F80_0001),
