@@ -4,7 +4,7 @@ use vehicle::handed::{Drive, Hit};
 use vehicle::math::Vector;
 use vehicle::row::{self, Row, ROW, TABLE, WHEELS};
 use vehicle::stream::{bytes_of, table_tokens, Code};
-use vehicle::table::Table;
+use vehicle::table::{Table, MARK_AIMED};
 
 use crate::axle::{a_read, long, tiny};
 use crate::parts::{along_an_axis, rotation, Size, MOST};
@@ -13,6 +13,9 @@ use crate::roll::{bad_roll, good_roll, rolled};
 
 /// 2^40: the greatest number that may be stored.
 const MOST_STORED: f32 = 1_099_511_627_776.0;
+
+/// A ray that starts inside the ground.
+const INSIDE: Hit = Hit { time: 0.0, normal: Vector::ZERO, upward_normal: None, body: None };
 
 /// A table and the codes to run on it.
 pub struct Rubbish {
@@ -23,8 +26,28 @@ pub struct Rubbish {
 /// The table and codes of this seed.
 pub fn rubbish(seed: u64) -> Rubbish {
     let mut random = Random::new(77, seed);
+    if seed % 4 == 3 {
+        return driven_at_once(&mut random);
+    }
     let table = table(&mut random);
     let codes = codes(&mut random, &table);
+    Rubbish { table, codes }
+}
+
+/// Transforms of any kind, which a drive works on where no aim came before it, and reads of what it said.
+fn driven_at_once(random: &mut Random) -> Rubbish {
+    let mut table = filled(random, Size::TAME);
+    table.mark = MARK_AIMED;
+    let wheels = table.count as usize;
+    let mut drive = Size::TAME.drive(random, wheels);
+    for answer in &mut drive.answers {
+        if !random.once_in(8) {
+            *answer = Some(INSIDE);
+        }
+    }
+    let mut codes = vec![Code::Drive(drive)];
+    codes.extend((0..table.count).map(Code::ReadAll));
+    codes.push(Code::End);
     Rubbish { table, codes }
 }
 
@@ -39,6 +62,15 @@ impl Rubbish {
 
 fn table(random: &mut Random) -> Table {
     let size = Size::any(random);
+    let mut table = filled(random, size);
+    if random.once_in(3) {
+        spoil(random, &mut table);
+    }
+    table
+}
+
+/// A table of numbers of this size that most calls accept.
+fn filled(random: &mut Random, size: Size) -> Table {
     let mut table = Table::new();
     table.count = random.below(5) as u32;
     table.mark = random.pick(&[0, 1, 1, 1, 2, 2]);
@@ -54,9 +86,6 @@ fn table(random: &mut Random) -> Table {
         let mut row = table.row(wheel);
         fill_fall_backs(random, &mut row);
         table.set_row(wheel, &row);
-    }
-    if random.once_in(3) {
-        spoil(random, &mut table);
     }
     table
 }
@@ -136,7 +165,7 @@ fn spoil(random: &mut Random, table: &mut Table) {
 fn from_inside(random: &mut Random, mut drive: Drive) -> Drive {
     for hit in drive.answers.iter_mut().flatten() {
         if random.once_in(2) {
-            *hit = Hit { time: 0.0, normal: Vector::ZERO, upward_normal: None, ..*hit };
+            *hit = Hit { body: hit.body, ..INSIDE };
         }
     }
     drive

@@ -462,8 +462,8 @@ fn drives_say_what_fell_back() {
         let more = said(table, &codes);
         [0, 1, 2, 3].map(|place| counts[place] + more[place])
     };
-    for (counts, least) in [(streams.fold([0; 4], total), 100), (tables.fold([0; 4], total), 5)] {
-        assert!(counts[..3].iter().all(|count| *count > least), "{counts:?}");
+    for counts in [streams.fold([0; 4], total), tables.fold([0; 4], total)] {
+        assert!(counts[..3].iter().all(|count| *count > 100), "{counts:?}");
         assert_eq!(counts[3], 0);
     }
 }
