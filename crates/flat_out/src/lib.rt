@@ -41,7 +41,15 @@ pub fn put_driven(results: &mut [f32], d: Driven)
         return;
     }
     let v = drive::results::velocity_numbers(d);
-    let numbers = [v[0], v[1], v[2], v[3], v[4], v[5], real::flag_number(d.wake)];
+    let numbers = [
+        v[0],
+        v[1],
+        v[2],
+        v[3],
+        v[4],
+        v[5],
+        real::flag_number(d.wake),
+    ];
     table::rows::copy(results, &numbers);
 }
 

@@ -116,7 +116,11 @@ pub fn apply_friction(up: Vector, d: Directions, w: Wheel, chassis: Chassis) -> 
 {
     let m = w.motion;
     let point = w.info.point;
-    let rolled = body::apply_impulse_at_point(chassis, vector::scale(d.forward.vector, m.forward), point);
+    let rolled = body::apply_impulse_at_point(
+        chassis,
+        vector::scale(d.forward.vector, m.forward),
+        point,
+    );
     let lifted = side_point(w.settings.roll, up, point, chassis.body.centre);
     body::apply_impulse_at_point(rolled, vector::scale(d.axis.vector, m.side), lifted)
 }

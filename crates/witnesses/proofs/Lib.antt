@@ -4,3 +4,4 @@ pub mod Refused
 pub mod Applied
 pub mod Rolls
 pub mod Carts
+pub mod Sledge

@@ -9,8 +9,9 @@ use Rattle.demands.specs.History.{Call, SetUp, run}
 use Rattle.witnesses.specs.Car.{sixteen, thirty-two}
 use Rattle.witnesses.specs.Calls.{lent, calls, otherCalls}
 use Rattle.witnesses.specs.Carts.{cartCalls, wagonCalls}
+use Rattle.witnesses.specs.Sledge.{sledgeCalls}
 use Rattle.witnesses.specs.Stream.{streamWords, answersTo}
-use Rattle.witnesses.specs.Oracle.{asked, told, otherAsked, otherTold, cartAsked, wagonAsked, cartToldFour, cartToldSixteen, wagonToldZero, wagonToldFour, wagonToldThirtyTwo}
+use Rattle.witnesses.specs.Oracle.{asked, told, otherAsked, otherTold, cartAsked, wagonAsked, cartToldFour, cartToldSixteen, wagonToldZero, wagonToldFour, wagonToldThirtyTwo, sledgeAsked, sledgeTold}
 use Rattle.witnesses.specs.Opened.{opened}
 
 pub record AsTold (l : List Call) (asked told : List (List ℕ)) : Type 0 where
@@ -45,3 +46,8 @@ wagon-four-as-told = record { words = refl; answers = refl }
 pub wagon-thirty-two-as-told : AsTold (wagonCalls thirty-two) (wagonAsked 0x42000000) wagonToldThirtyTwo
 unfolding opened
 wagon-thirty-two-as-told = record { words = refl; answers = refl }
+
+-- ---- the sledge
+pub sledge-as-told : AsTold sledgeCalls sledgeAsked sledgeTold
+unfolding opened
+sledge-as-told = record { words = refl; answers = refl }

@@ -77,19 +77,23 @@ otherCalls =
 abbrev pub leftBy : List Call → State
 leftBy l = runAll binary32 (SetUp 1 0 ∷ l) lent
 
--- where a wheel stands once it is aimed, and such a wheel
+-- where a wheel stands once it is aimed; a wheel that is aimed and stands there, and one that hangs at the height of the pose
 abbrev pub raised : Vector → Vector
 raised connection = vector (connection .x) three-halves (connection .z)
 
-abbrev pub placed : Settings → Controls → Wheel
-placed settings controls = record {
-  info = record { normal = nowhere; point = nowhere; length = zero; hard = raised (settings .connection) };
-  place = record { centre = raised (settings .connection); direction = settings .direction; axle = settings .axle };
+abbrev pub placedAt : Vector → Settings → Controls → Wheel
+placedAt hard settings controls = record {
+  info = record { normal = nowhere; point = nowhere; length = zero; hard = hard };
+  place = record { centre = hard; direction = settings .direction; axle = settings .axle };
   settings = settings;
   controls = controls;
   approach = record { velocity = zero; inverse = zero };
   motion = record { rotation = zero; spin = zero; force = zero; forward = zero; side = zero; skid = zero };
+  fallbacks = record { axis = zero; forward = zero };
 }
+
+abbrev pub placed : Settings → Controls → Wheel
+placed settings controls = placedAt (raised (settings .connection)) settings controls
 
 -- room for the wheels behind the first n; and a drive of n wheels over a table that an aim left, with axes 1 and 0
 abbrev pub room : ℕ → List Float

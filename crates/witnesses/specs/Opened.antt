@@ -8,17 +8,17 @@ use Rattle.lists.specs.All.{all}
 use Rattle.lists.specs.Refusal.{firstFailed}
 use Rattle.real.specs.Number.{ratio}
 use Rattle.real.specs.Root.{rootOf}
-use Rattle.real.specs.Scalar.{inverseOf, usable, raisedOf, loweredOf, clampOf, notBelowZero, within}
+use Rattle.real.specs.Scalar.{inverseOf, usable, raisedOf, loweredOf, clampOf, notBelowZero, within, flagNumber, readsYes}
 use Rattle.vector.specs.Arithmetic.{zeroV, addV, subV, negV, scaleV, partsV, dotV, crossV, lengthV, normalizeOrZero, rotateV, transformPoint, rowsOf, rowDot, rowsDot, inertiaDot, ith}
 use Rattle.body.specs.Body.{velocityAtPoint, applyImpulseAtPoint, impulseDenominator}
 use Rattle.tyre.specs.Suspension.{suspensionLength, approachOf, dampingOf, suspensionForce, cutOf}
 use Rattle.tyre.specs.Demand.{sideResponse, rollingResponse, rollingOf}
 use Rattle.tyre.specs.Grip.{loadOf, slides, skidOf, withSkid, rescaledBy, rescaledOf, brakedOf, limitOf}
 use Rattle.wheel.specs.Ray.{centreOf, settledCentre, updateWheelTransform, rayOf, isZero, upwardNormal, isUndefined, contactNormal, hitOf, missOf, rayCast, isGrounded, namedOf}
-use Rattle.road.specs.Contact.{contactAxis, contactForward, directionsOf, dynamicGround, relativeVelocity, swingOf, jacobianDiagonal, denominatorsOf}
+use Rattle.road.specs.Contact.{contactAxis, contactForward, directionsOf, fallbacksOf, dynamicGround, relativeVelocity, swingOf, jacobianDiagonal, denominatorsOf}
 use Rattle.road.specs.Step.{contactForce, wheelForce, suspendedOf, applySuspension, wheelLimit, sideDemand, rollingDemand, frictionOf, sidePoint, applyFriction, contactSpin, spunBy}
 use Rattle.road.specs.Step.{updateRotation}
-use Rattle.table.specs.Rows.{vectorAt, rotationAt, inertiaAt, infoAt, placeAt, tuningAt, settingsAt, controlsAt, approachAt, motionAt, wheelOf, rowOf, wheelAt, putWheel, chassisOf}
+use Rattle.table.specs.Rows.{vectorAt, rotationAt, inertiaAt, infoAt, placeAt, tuningAt, settingsAt, controlsAt, approachAt, motionAt, fallbacksAt, wheelOf, rowOf, wheelAt, putWheel, chassisOf}
 use Rattle.table.specs.Rows.{chassisList, chassisAt, putChassis, bodyOf, bodyAt}
 use Rattle.table.specs.Bounds.{allWithin, storedWithin}
 use Rattle.ranges.specs.Ranges.{inRange, inUnit, notNegative, settingsInRange, sumOfSquares, inBand, rotationInRange, controlsInRange, chassisInRange, bodyInRange, bodiesInRange}
@@ -47,7 +47,7 @@ use Rattle.demands.specs.Update.{updateOf, updated}
 use Rattle.demands.specs.Settled.{quiet, lengthBy}
 use Rattle.demands.specs.Fixed.{AddHands, AddsHand}
 use Rattle.scenario.specs.Results.{wordsOf, flagWord}
-use Rattle.replies.specs.Replies.{aimResults, driveResults, settledResults}
+use Rattle.replies.specs.Replies.{aimResults, driveResults, settledResults, allResults}
 use Rattle.witnesses.specs.Stream.{answerWords, answersWords, callWords, streamWords, resultsOf, answerOf, answersTo}
 
 unfoldable pub open-lists : Unit {0}
@@ -55,7 +55,7 @@ unfolding pick part paste iter every tally all firstFailed
 open-lists = tt
 
 unfoldable pub open-numbers : Unit {0}
-unfolding neg add sub mul div lt le eq ne ofInt ofBits toBits fits ratio rootOf inverseOf usable raisedOf loweredOf clampOf notBelowZero within
+unfolding neg add sub mul div lt le eq ne ofInt ofBits toBits fits ratio rootOf inverseOf usable raisedOf loweredOf clampOf notBelowZero within flagNumber readsYes
 open-numbers = tt
 
 unfoldable pub open-vectors : Unit {0}
@@ -71,7 +71,7 @@ unfolding suspensionLength approachOf dampingOf suspensionForce cutOf sideRespon
 open-tyres = tt
 
 unfoldable pub open-contacts : Unit {0}
-unfolding contactAxis contactForward directionsOf dynamicGround relativeVelocity swingOf jacobianDiagonal denominatorsOf
+unfolding contactAxis contactForward directionsOf fallbacksOf dynamicGround relativeVelocity swingOf jacobianDiagonal denominatorsOf
 open-contacts = tt
 
 unfoldable pub open-roads : Unit {0}
@@ -79,7 +79,7 @@ unfolding contactForce wheelForce suspendedOf applySuspension wheelLimit sideDem
 open-roads = tt
 
 unfoldable pub open-rows : Unit {0}
-unfolding vectorAt rotationAt inertiaAt infoAt placeAt tuningAt settingsAt controlsAt approachAt motionAt wheelOf rowOf wheelAt putWheel chassisOf chassisList chassisAt putChassis bodyOf bodyAt
+unfolding vectorAt rotationAt inertiaAt infoAt placeAt tuningAt settingsAt controlsAt approachAt motionAt fallbacksAt wheelOf rowOf wheelAt putWheel chassisOf chassisList chassisAt putChassis bodyOf bodyAt
 open-rows = tt
 
 unfoldable pub open-bounds : Unit {0}
@@ -119,7 +119,7 @@ unfolding answered accepted run runAll drives undrives noneUndrives drivenSince 
 open-histories = tt
 
 unfoldable pub open-streams : Unit {0}
-unfolding wordsOf flagWord aimResults driveResults settledResults answerWords answersWords callWords streamWords resultsOf answerOf answersTo
+unfolding wordsOf flagWord aimResults driveResults settledResults allResults answerWords answersWords callWords streamWords resultsOf answerOf answersTo
 open-streams = tt
 
 unfoldable pub opened : Unit {0}

@@ -13,7 +13,7 @@ use Rattle.aim.specs.Aim.{aimOf}
 use Rattle.drive.specs.Drive.{driveOf}
 use Rattle.grammar.specs.Layout as code
 use Rattle.scenario.specs.Results.{wordsOf}
-use Rattle.replies.specs.Replies.{aimResults, driveResults, settledResults}
+use Rattle.replies.specs.Replies.{aimResults, driveResults, allResults}
 use Rattle.demands.specs.History.{State, Call, SetUp, AddWheel, SetControls, Aim, Drive, ReadWheel, answered, accepted, run}
 
 abbrev pub patterns : List Float → List ℕ
@@ -29,14 +29,14 @@ unfoldable pub answersWords : (ℕ → RayAnswer) → ℕ → ℕ → List ℕ
 answersWords answer zero i = []
 answersWords answer (suc k) i = answerWords (answer i) ++ answersWords answer k (suc i)
 
--- a set-up has no code: the stream starts set up. The frames here have no ground bodies. A wheel is added by code 6, as code 1 adds one with 0.1; it is read by code 8, whose first fifteen results are those of code 5.
+-- a set-up has no code: the stream starts set up. The frames here have no ground bodies. A wheel is added by code 6, as code 1 adds one with 0.1; it is read by code 9, whose first results are those of codes 5 and 8.
 unfoldable pub callWords : Call → List ℕ
 callWords (SetUp up forward) = []
 callWords (AddWheel settings) = code.ADD-ROLLED ∷ patterns (settingsList settings)
 callWords (SetControls i controls) = code.CONTROLS ∷ i ∷ patterns (controlsList controls)
 callWords (Aim chassis) = code.AIM ∷ patterns (chassisList chassis)
 callWords (Drive frame n) = code.DRIVE ∷ patterns (frame .dt ∷ []) ++ (length (frame .dynamic) ∷ n ∷ answersWords (frame .answer) n 0)
-callWords (ReadWheel i) = code.READ-SETTLED ∷ i ∷ []
+callWords (ReadWheel i) = code.READ-ALL ∷ i ∷ []
 
 unfoldable pub streamWords : List Call → List (List ℕ)
 streamWords [] = []
@@ -49,7 +49,7 @@ resultsOf (AddWheel settings) s = []
 resultsOf (SetControls i controls) s = []
 resultsOf (Aim chassis) s = aimResults binary32 (countOf (s .whole)) (aimOf binary32 (s .table) (s .whole) chassis .reply)
 resultsOf (Drive frame n) s = driveResults binary32 (driveOf binary32 (s .table) (s .whole) frame n .reply)
-resultsOf (ReadWheel i) s = settledResults binary32 (readWheel binary32 (s .table) (s .whole) i .reply)
+resultsOf (ReadWheel i) s = allResults binary32 (readWheel binary32 (s .table) (s .whole) i .reply)
 
 unfoldable pub answerOf : Call → State → List ℕ
 answerOf c s = answered binary32 c s .reply ∷ pick (accepted binary32 c s) (resultsOf c s) []
