@@ -356,8 +356,8 @@ module _ {f : Format} {d : Step} {i : ℕ} (g : Grounded f d i) where
   pub no-forward-no-push : readAfterDrive f d i .reply .noforward ≡ true → IsZeroV (scaleV f (forwardIn f d i .vector) (forwardImpulse f d i))
   no-forward-no-push h = no-forward-push f d i g (forward-said h)
 
--- ---- Change request 2026-07, "Roll influence per wheel." "With 0.1 everywhere demand 2 reads as it did": where each wheel of a step stores 0.1, the step is `fixedStep`, whose rule 9 has 0.1 for every wheel. From any stored
--- state, under any tuning.
+-- ---- Change request 2026-07, "Roll influence per wheel." "With 0.1 everywhere demand 2 reads as it did": where each wheel of a step stores 0.1, the step is `fixedStep`, whose rule 9 has 0.1 for every wheel. From any table
+-- of the right size, under any tuning.
 pub step-as-before : (f : Format) (tune : WheelTuning → WheelTuning) (up n : ℕ) (r : Frame) (t : List Float) → length t ≡ at.SIZE → n ≤ at.WHEELS → AllTenth f t n → wholeStep f tune up r n t ≡ fixedStep f tune up r n t
 step-as-before f tune up n r t s l tenth = step-alike f tune r n l t s up tenth
 

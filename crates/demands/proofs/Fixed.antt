@@ -26,7 +26,7 @@ use Rattle.table.specs.Bounds.{HANDED, STORED}
 use Rattle.ranges.specs.Ranges.{inRange, inUnit, notNegative, settingsInRange}
 use Rattle.ground.specs.Frame.{Frame}
 use Rattle.passes.specs.Passes.{moved, eachMoves, rescales, pushAt, pushes}
-use Rattle.passes.specs.Step.{Work, spun, pushed, demandStep, wholeStep}
+use Rattle.passes.specs.Step.{spun, pushed, demandStep, wholeStep}
 use Rattle.passes.proofs.Laws.{wheel-rescales}
 use Rattle.demands.specs.Fixed.{fixedFriction, fixedPushAt, fixedPushed, fixedStep, fixedInRange, IsTenth, AllTenth}
 use Rattle.demands.proofs.Sizes.{length-demanded}

@@ -12,7 +12,6 @@ use Rattle.lists.specs.Pick.{pick}
 use Rattle.body.specs.declared.Chassis.{Chassis}
 use Rattle.wheel.specs.declared.Settings.{Settings}
 use Rattle.wheel.specs.declared.Wheel.{Wheel}
-use Rattle.wheel.specs.Parts.{withMotion}
 use Rattle.wheel.specs.Ray.{updateWheelTransform}
 use Rattle.table.specs.Layout as at
 use Rattle.table.specs.Rows.{wheelAt, putWheel, chassisAt, putChassis}

@@ -87,8 +87,8 @@ fn reading_count(settled: bool) -> usize
     if settled { SETTLED } else { READING }
 }
 
-// The numbers of a wheel, with its settled centre or without.
-fn put_wheel(words: &mut [u32], settled: bool, r: Reading) -> usize
+// The floats of a read, with the settled centre or without.
+fn put_floats(words: &mut [u32], settled: bool, r: Reading) -> usize
     requires { ⌜ length (now words) ≡ line.RESULTS ⌝ }
     ensures { λ k. ⌜ Puts (now (words .entry)) (now (words .exit)) 0 k (pick settled (settledResults format r) (readResults format r)) ⌝ }
 {
@@ -98,7 +98,7 @@ fn put_wheel(words: &mut [u32], settled: bool, r: Reading) -> usize
     count
 }
 
-// The numbers of a wheel with its settled centre, and whether its axis and its forward direction fell back to zero.
+// The floats of a read with the settled centre, and whether the axis and the forward direction fell back to zero.
 fn put_all(words: &mut [u32], r: Reading) -> usize
     requires { ⌜ length (now words) ≡ line.RESULTS ⌝ }
     ensures { λ k. ⌜ Puts (now (words .entry)) (now (words .exit)) 0 k (allResults format r) ⌝ }
@@ -116,8 +116,8 @@ pub fn put_reading(words: &mut [u32], extent: Extent, r: Reading) -> usize
     ensures { λ k. ⌜ Puts (now (words .entry)) (now (words .exit)) 0 k (resultsOf format extent r) ⌝ }
 {
     match extent {
-        Extent::Document => put_wheel(words, false, r),
-        Extent::Settled => put_wheel(words, true, r),
+        Extent::Document => put_floats(words, false, r),
+        Extent::Settled => put_floats(words, true, r),
         Extent::All => put_all(words, r),
     }
 }

@@ -1,4 +1,4 @@
--- A wheel with one part replaced, or with some numbers of a part. Definitions only.
+-- A wheel with one part replaced, or with some numbers of a part; and the roll influence of the source. Definitions only.
 use lib.Ieee.{Float, Format}
 use Rattle.real.specs.Number.{ratio}
 use Rattle.vector.specs.declared.Vector.{Vector}

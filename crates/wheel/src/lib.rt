@@ -55,7 +55,8 @@ pub struct Motion {
     pub skid: f32,
 }
 
-// Change request 2026-05: whether rule 7's axis and forward direction fell back to zero in the drive, as the row keeps it: 1 or 0, and any number but 0 is yes.
+// Change request 2026-05: whether rule 7's axis and forward direction fell back to zero in the drive, as the row keeps it: 1 or 0. Any
+// number but 0 is a yes.
 pub struct Fallbacks {
     pub axis: f32,
     pub forward: f32,

@@ -9,13 +9,13 @@ returns : tie.Need-returns
 unfolding resultsOf pick
 returns c =
     let put = c .before .before in
-    rw (put .before .before .enum-told .given .1) (put .put-wheel .ensures)
+    rw (put .before .before .enum-told .given .1) (put .put-floats .ensures)
 
 returns-2 : tie.Need-returns-2
 unfolding resultsOf pick
 returns-2 c =
     let put = c .before .before in
-    rw (put .before .before .enum-told2 .given .1) (put .put-wheel2 .ensures)
+    rw (put .before .before .enum-told2 .given .1) (put .put-floats2 .ensures)
 
 returns-3 : tie.Need-returns-3
 unfolding resultsOf

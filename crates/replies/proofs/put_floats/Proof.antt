@@ -1,12 +1,12 @@
--- `replies::put_wheel` meets its contract: `put_numbers` puts as many as are asked for. Assumes nothing.
+-- `replies::put_floats` meets its contract: `put_numbers` puts as many as are asked for. Assumes nothing.
 use borrow.Author.Needs.{needs}
 use mathlib.Core.Path.{sym}
 use native.Mathlib.Omega.{arith}
 use lib.Seq.{length-take-le}
 use Rattle.scenario.specs.Format.{format}
 use Rattle.replies.proofs.Settled.{count-fits, first-numbers-put}
-use Rattle.replies.proofs.put_wheel.Statement.{statement}
-use Rattle.replies.proofs.put_wheel.Tie as tie
+use Rattle.replies.proofs.put_floats.Statement.{statement}
+use Rattle.replies.proofs.put_floats.Tie as tie
 
 array-share-prefix-numbers : tie.Need-array-share-prefix-numbers
 array-share-prefix-numbers c = let k = count-fits _ _ (c .before .reading-count .ensures) in search needs
@@ -27,5 +27,5 @@ returns c =
     let counted = put .before .before .before in
     first-numbers-put format _ _ _ _ _ (counted .reading-count .ensures) (rw (counted .before .all-numbers .ensures) at (put .put-numbers .ensures))
 
-pub put-wheel-spec : {M : Type 1} → statement M
-put-wheel-spec = tie.close (tie.spec (λ c κs. tt) (λ c κs. tt) array-share-prefix-numbers slice-aggregate-put-numbers put-numbers-requires (λ c. search needs) returns)
+pub put-floats-spec : {M : Type 1} → statement M
+put-floats-spec = tie.close (tie.spec (λ c κs. tt) (λ c κs. tt) array-share-prefix-numbers slice-aggregate-put-numbers put-numbers-requires (λ c. search needs) returns)
