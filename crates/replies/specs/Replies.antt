@@ -32,7 +32,7 @@ settledResults f r = wordsOf f (settledList r)
 unfoldable pub allResults : Format → Reading → List ℕ
 allResults f r = settledResults f r ++ (flagWord (r .noaxis) ∷ flagWord (r .noforward) ∷ [])
 
--- the results of a read to this extent
+-- the same by what is to be printed, which states inner functions
 unfoldable pub resultsOf : Format → Extent → Reading → List ℕ
 resultsOf f Document r = readResults f r
 resultsOf f Settled r = settledResults f r
