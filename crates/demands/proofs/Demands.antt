@@ -28,7 +28,7 @@ use Rattle.tyre.specs.Grip.{skidOf, rescaledBy}
 use Rattle.tyre.specs.Demand3.{precision, Grips, WithinBrake, leastLimit}
 use Rattle.tyre.specs.MoreBrake.{BrakesNoLess}
 use Rattle.tyre.proofs.Demand3.{not-sliding, sliding}
-use Rattle.road.proofs.Fallback.{no-axis-no-forward}
+use Rattle.road.proofs.Fallback.{axis-zero, forward-zero, axis-not-zero, forward-not-zero, no-axis-no-forward}
 use Rattle.table.specs.Layout as at
 use Rattle.table.specs.Rows.{wheelAt, chassisAt}
 use Rattle.table.specs.Bounds.{HANDED, STORED}
@@ -70,7 +70,7 @@ use Rattle.demands.proofs.Impulses.{tests, forward-rescaled, side-resca
 use Rattle.demands.proofs.Settled.{driven-settled, driven-place, read-done, read-after-drive, shape-after-drive, settled-of-placed, next-centre}
 use Rattle.demands.proofs.Quiet.{quiet-stays}
 use Rattle.demands.proofs.Finite.{settled-finite}
-use Rattle.demands.proofs.Fallback.{axis-of-grounded, forward-of-grounded, axis-of-airborne, forward-of-airborne, no-side, no-roll, no-side-push, no-forward-push}
+use Rattle.demands.proofs.Fallback.{yes-of, zero-vector, axis-of-grounded, forward-of-grounded, axis-of-airborne, forward-of-airborne, no-side, no-roll, no-side-push, no-forward-push}
 use Rattle.demands.proofs.Fixed.{tenth-passes, ranges-alike, step-alike}
 use Rattle.demands.proofs.Stored.{stored-from-set-up}
 use Rattle.demands.proofs.MoreBrake.{demand-no-less, demand-equal, demand-same}
@@ -319,6 +319,19 @@ module _ (f : Format) (d : Step) (i : ℕ) (passed : Accepted f d) (counted : i 
 
   pub no-forward-exactly : groundedAt (d .frame .answer) i ≡ true → readAfterDrive f d i .reply .noforward ≡ forwardIn f d i .fellback
   no-forward-exactly contact = forward-of-grounded f d i passed counted contact
+
+  -- so yes says that the direction which the drive worked with was zero, and no that it was not
+  pub no-axis-is-zero : groundedAt (d .frame .answer) i ≡ true
+      → (readAfterDrive f d i .reply .noaxis ≡ true → IsZeroV (axisIn f d i .vector)) × (IsZeroV (axisIn f d i .vector) → readAfterDrive f d i .reply .noaxis ≡ true)
+  no-axis-is-zero contact =
+      let said = no-axis-exactly contact in
+      ((λ h. zero-vector _ (axis-zero f _ _ (sym said ∙ h))), (λ z. said ∙ yes-of (axisIn f d i .fellback) (λ no. axis-not-zero f _ _ no (z .x) (z .y) (z .z))))
+
+  pub no-forward-is-zero : groundedAt (d .frame .answer) i ≡ true
+      → (readAfterDrive f d i .reply .noforward ≡ true → IsZeroV (forwardIn f d i .vector)) × (IsZeroV (forwardIn f d i .vector) → readAfterDrive f d i .reply .noforward ≡ true)
+  no-forward-is-zero contact =
+      let said = no-forward-exactly contact in
+      ((λ h. zero-vector _ (forward-zero f _ _ (sym said ∙ h))), (λ z. said ∙ yes-of (forwardIn f d i .fellback) (λ no. forward-not-zero f _ _ no (z .x) (z .y) (z .z))))
 
   pub airborne-both-no : groundedAt (d .frame .answer) i ≡ false → (readAfterDrive f d i .reply .noaxis ≡ false) × (readAfterDrive f d i .reply .noforward ≡ false)
   airborne-both-no contact = (axis-of-airborne f d i passed counted contact, forward-of-airborne f d i passed counted contact)

@@ -4,7 +4,7 @@ use Prim.Native.Nat.{ℕ, _<_}
 use mathlib.Core.Bool.{Bool, true, false}
 use mathlib.Core.Path.{_≡_, refl, sym, ap, subst, _∙_}
 use lib.Dec.{T}
-use lib.Ieee.{Float, Format, ne}
+use lib.Ieee.{Float, Format, eq, ne}
 use lib.Ieee.Scale.{finite}
 use Rattle.real.specs.Number.{zero}
 use Rattle.real.specs.Scalar.{flagNumber, readsYes}
@@ -44,6 +44,15 @@ flag-read false = refl
 no-read : readsYes zero ≡ false
 unfolding readsYes ne
 no-read = refl
+
+-- what is not no is yes; and the parts of the zero vector
+pub yes-of : (b : Bool) → (b ≡ false → ⊥) → b ≡ true
+yes-of true h = refl
+yes-of false h = absurd (h refl)
+
+pub zero-vector : (v : Vector) → v ≡ zeroV → IsZeroV v
+unfolding zeroV eq
+zero-vector v e = rw e (record { x = refl; y = refl; z = refl })
 
 -- ---- the directions of the wheel as the springs leave it are rule 7's
 cast-keeps-place : (f : Format) (tuning : WheelTuning) (kept : Body) (answer : RayAnswer) (w : Wheel) → rayCast f tuning kept answer w .place ≡ w .place

@@ -11,6 +11,7 @@ pub mod Near
 pub mod SignedCounts
 pub mod NotNegative
 pub mod Nought
+pub mod NotZero
 pub mod Rounding
 pub mod RootRounds
 pub mod Bounds

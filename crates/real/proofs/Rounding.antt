@@ -129,7 +129,7 @@ round-rounds f s a c {u} C h l =
     let value = units-val f s (kept (prec f) (a * unit f) c) (drop (prec f) (a * unit f) c) (bound .0) in
     record { units = grid f a c; counted = record { value = rw (round-is f s a c) value }; rounded = grid-rounded f a c C; most = bound .1 }
 
-mul-round : {f : Format} {x y : Float} {s t : Bool} {a b : ℕ} → Counted f x s a → Counted f y t b → mul f x y ≡ round f (unlike s t) (a * b) (unit f * unit f)
+pub mul-round : {f : Format} {x y : Float} {s t : Bool} {a b : ℕ} → Counted f x s a → Counted f y t b → mul f x y ≡ round f (unlike s t) (a * b) (unit f * unit f)
 unfolding mul
 mul-round {f} {s = s} {t} {a} {b} h k = of-fractions (λ (x y : Float). mul f x y ≡ round f (unlike s t) (a * b) (unit f * unit f)) fractions h k
   where
@@ -169,7 +169,7 @@ add-rounds {f} {a = a} {b} h k v l =
     record { units = r .units; counted = rw (add-round h k) (r .counted); rounded = rounded-of-scaled (unit f) D (rw (one-mul (unit f)) (r .rounded)); most = r .most }
 
 -- two values that are not negative, the second above zero
-div-round : {f : Format} {x y : Float} {a b : ℕ} → Counted f x false a → Counted f y false b → 0 < b → div f x y ≡ round f false a b
+pub div-round : {f : Format} {x y : Float} {a b : ℕ} → Counted f x false a → Counted f y false b → 0 < b → div f x y ≡ round f false a b
 unfolding div
 div-round {f} {a = a} {b} h k B = of-fractions (λ (x y : Float). div f x y ≡ round f false a b) fractions h k
   where

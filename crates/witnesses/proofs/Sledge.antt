@@ -1,9 +1,9 @@
 -- The theorems of change request 2026-05, each applied to a wheel of the sledge, or to the lifted wheel of the car. In order: what the calls leave, and the wheels of the drive; what a read says of each; what that means; and what the
 -- forward answer alone does not mean. Assumes nothing.
 use Prim.Native.Nat.{ℕ, _<_}
-use mathlib.Core.Bool.{true, false}
+use mathlib.Core.Bool.{true, false, true≢false}
 use mathlib.Core.List.{List, [], _∷_}
-use mathlib.Core.Path.{_≡_, refl}
+use mathlib.Core.Path.{_≡_, refl, sym, _∙_}
 use lib.Dec.{lit<}
 use lib.Ieee.{Float, binary32}
 use Rattle.real.specs.Number.{zero}
@@ -82,6 +82,19 @@ slack-has-an-axis = demands.no-axis-exactly binary32 sledge 1 sledge-accepted (l
 pub witness-no-forward-exactly : readAfterDrive binary32 sledge 1 .reply .noforward ≡ true
 unfolding opened
 witness-no-forward-exactly = demands.no-forward-exactly binary32 sledge 1 sledge-accepted (lit< tt) refl
+
+-- the dead wheel's axis is zero; the slack wheel's is not, since its read would say so, and its forward direction is
+pub witness-no-axis-is-zero : IsZeroV (axisIn binary32 sledge 0 .vector)
+unfolding opened
+witness-no-axis-is-zero = demands.no-axis-is-zero binary32 sledge 0 sledge-accepted (lit< tt) refl .0 witness-no-axis-exactly
+
+pub slack-axis-not-zero : IsZeroV (axisIn binary32 sledge 1 .vector) → ⊥
+unfolding opened
+slack-axis-not-zero z = true≢false (sym (demands.no-axis-is-zero binary32 sledge 1 sledge-accepted (lit< tt) refl .1 z) ∙ slack-has-an-axis)
+
+pub witness-no-forward-is-zero : IsZeroV (forwardIn binary32 sledge 1 .vector)
+unfolding opened
+witness-no-forward-is-zero = demands.no-forward-is-zero binary32 sledge 1 sledge-accepted (lit< tt) refl .0 witness-no-forward-exactly
 
 pub witness-no-axis-then-no-forward : readAfterDrive binary32 sledge 0 .reply .noforward ≡ true
 witness-no-axis-then-no-forward = demands.no-axis-then-no-forward binary32 sledge 0 sledge-accepted (lit< tt) witness-no-axis-exactly
