@@ -320,7 +320,7 @@ module _ (f : Format) (d : Step) (i : ℕ) (passed : Accepted f d) (counted : i 
   pub no-forward-exactly : groundedAt (d .frame .answer) i ≡ true → readAfterDrive f d i .reply .noforward ≡ forwardIn f d i .fellback
   no-forward-exactly contact = forward-of-grounded f d i passed counted contact
 
-  -- so yes says that the direction which the drive worked with was zero, and no that it was not
+  -- yes says that the direction which the drive worked with was zero, and no that it was not
   pub no-axis-is-zero : groundedAt (d .frame .answer) i ≡ true
       → (readAfterDrive f d i .reply .noaxis ≡ true → IsZeroV (axisIn f d i .vector)) × (IsZeroV (axisIn f d i .vector) → readAfterDrive f d i .reply .noaxis ≡ true)
   no-axis-is-zero contact =
@@ -336,7 +336,7 @@ module _ (f : Format) (d : Step) (i : ℕ) (passed : Accepted f d) (counted : i 
   pub airborne-both-no : groundedAt (d .frame .answer) i ≡ false → (readAfterDrive f d i .reply .noaxis ≡ false) × (readAfterDrive f d i .reply .noforward ≡ false)
   airborne-both-no contact = (axis-of-airborne f d i passed counted contact, forward-of-airborne f d i passed counted contact)
 
-  -- a wheel with no axis has no forward direction either: of the four pairs of answers, yes and no never stand together so
+  -- a wheel with no axis has no forward direction either: of the four pairs of answers three can occur
   pub no-axis-then-no-forward : readAfterDrive f d i .reply .noaxis ≡ true → readAfterDrive f d i .reply .noforward ≡ true
   no-axis-then-no-forward h = either (groundedAt (d .frame .answer) i) refl
     where

@@ -1,6 +1,6 @@
 -- Change request 2026-05, "Tell us when a wheel has no rolling direction": rule 7's two directions of a wheel in a drive, and what a dead tyre is. Definitions only.
 use Prim.Native.Nat.{ℕ}
-use mathlib.Core.Bool.{Bool, true}
+use mathlib.Core.Bool.{true}
 use mathlib.Core.Path.{_≡_}
 use lib.Ieee.{Float, Format, eq}
 use Rattle.real.specs.Number.{zero}

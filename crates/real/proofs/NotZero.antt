@@ -1,9 +1,9 @@
 -- When a rounded number is not zero, and what a usable reciprocal of a root says. In order: whether a fraction rounds to 0 does not depend on its sign (round-sign), and one of a unit or more does not (round-not-zero); a number whose
--- square is not rounded to 0 has more than about the root of a unit (square-not-zero); what is finite has finite parts (finite-of-add, finite-of-square); a usable reciprocal of a root is one of a number above zero, and not small
--- (root-of-usable); so such a number times that reciprocal is not zero (product-not-zero). Assumes nothing.
+-- square is not rounded to 0 has more than about the root of a unit (square-not-zero); what is finite has finite parts (finite-of-add, finite-of-square); a root with a usable reciprocal is that of a number above zero
+-- (positive-of-usable), and the reciprocal is not small (reciprocal-count); so such a number times that reciprocal is not zero (product-not-zero). Assumes nothing.
 use mathlib.Core.Path.{_≡_, refl, sym, ap, subst, _∙_}
 use Prim.Native.Nat.{ℕ, zero, suc, _+_, _-_, _*_, _^_, _≤_, _<_}
-use native.Mathlib.Nat.{le-trans, le-of-eq, le-of-lt, lt-of-not-le, not-le-of-lt, mul-le-mul, mul-le-mul-left, mul-le-mul-right, le-of-mul-le-mul-right, mul-pos, eq-of-mul-eq-mul-right, zero-lt-suc}
+use native.Mathlib.Nat.{le-trans, le-of-lt, lt-of-not-le, not-le-of-lt, mul-le-mul, mul-le-mul-right, mul-pos, eq-of-mul-eq-mul-right, zero-lt-suc}
 use native.Mathlib.Decide.{decLe}
 use native.Mathlib.Omega.{arith}
 use mathlib.Core.Bool.{Bool, true, false, not, _&&_, _||_, Bool·beq, cond, true≢false}
@@ -11,7 +11,7 @@ use lib.Dec.{T, eqb, ltb, lt→ltb, lit≤, lit<}
 use lib.IntN.{ℤ, pos, negsuc}
 use lib.Pow.{pow-pos}
 use lib.Ieee.{Float, nan, inf, fin, Format, binary32, binary64, prec, emax, low, up, down, level, odd, units, round, unlike, add, mul, div, lt, eq, le, fits}
-use lib.Ieee.Fits.{down-pos, round-is, add-fits, div-fits, and-l, and-r}
+use lib.Ieee.Fits.{down-pos, round-is, div-fits}
 use lib.Ieee.Bits.{is-true}
 use lib.Ieee.Order.{drop, kept, round-mono}
 use lib.Ieee.Positive.{positive, positive-finite}
@@ -20,9 +20,9 @@ use Rattle.real.specs.Number.{zero as nought, one}
 use Rattle.real.specs.Root.{rootOf}
 use Rattle.real.specs.Scalar.{usable}
 use Rattle.real.specs.Units.{unit, count, minus?}
-use Rattle.real.proofs.SignedCounts.{Counted, own-count, own-holds, count-of, zero-counted, one-counted, fraction-counted, eq-counts, le-counts, at-most-plus, at-most-zero}
+use Rattle.real.proofs.SignedCounts.{Counted, own-count, own-holds, zero-counted, one-counted, fraction-counted, eq-counts, le-counts, at-most-plus, at-most-zero}
 use Rattle.real.proofs.Rounding.{parts, parts-pos, mul-round, div-round}
-use Rattle.real.proofs.NotNegative.{NotNegative, level-zero, round-not-negative, root-not-negative}
+use Rattle.real.proofs.NotNegative.{NotNegative, level-zero, round-not-negative}
 use Rattle.real.proofs.Nought.{Nought, nought-of-zero, reciprocal-unusable}
 use Rattle.real.proofs.Near.{le-of-by}
 use Rattle.real.proofs.RootRounds.{root-rounds}

@@ -1,8 +1,8 @@
 -- A value that is a NaN or a zero. What is equal to 0 is one (nought-of-zero), and a fraction of 0 rounds to such a number (round-zero, round-nought); minus one, the sum and the difference of two, a product with one, one divided by anything, and the root of one are such values (neg-nought, add-nought, sub-nought,
 -- mul-nought-left, mul-nought-right, div-nought, root-nought); the reciprocal of one is not finite and above 0 (reciprocal-unusable); one that is no NaN is equal to 0 (zero-of-nought), as 0 times a finite number is
 -- (zero-mul-finite), and clamped to ± a bound it still is (clamp-zero). Assumes nothing.
-use mathlib.Core.Path.{_≡_, refl, sym, ap, ap₂, subst, _∙_}
-use Prim.Native.Nat.{ℕ, zero, suc, _+_, _-_, _*_, _/_, _^_, _<_, min}
+use mathlib.Core.Path.{_≡_, refl, sym, ap, subst, _∙_}
+use Prim.Native.Nat.{ℕ, zero, suc, _+_, _-_, _*_, _/_, _<_, min}
 use native.Mathlib.Nat.{eq-of-mul-eq-mul-right, mul-pos, zero-mul, zero-div, zero-min}
 use native.Mathlib.Omega.{arith}
 use mathlib.Core.Bool.{Bool, true, false, not, _&&_, Bool·beq, cond, true≢false}

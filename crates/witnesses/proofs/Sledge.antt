@@ -5,7 +5,7 @@ use mathlib.Core.Bool.{true, false, true≢false}
 use mathlib.Core.List.{List, [], _∷_}
 use mathlib.Core.Path.{_≡_, refl, sym, _∙_}
 use lib.Dec.{lit<}
-use lib.Ieee.{Float, binary32}
+use lib.Ieee.{binary32}
 use Rattle.real.specs.Number.{zero}
 use Rattle.marked.specs.Numbers.{six}
 use Rattle.vector.specs.Arithmetic.{zeroV, scaleV, normalizeOrZero}

@@ -6,7 +6,7 @@ use mathlib.Core.List.{List, [], _∷_, _++_}
 use lib.IntN.{pos, negsuc}
 use lib.Ieee.{Float, fin}
 use Rattle.real.specs.Number.{zero, one, two, half}
-use Rattle.marked.specs.Numbers.{four, five, eight, twelve, three-quarters}
+use Rattle.marked.specs.Numbers.{four, eight, twelve, three-quarters}
 use Rattle.vector.specs.declared.Vector.{Vector}
 use Rattle.wheel.specs.declared.Settings.{Settings}
 use Rattle.wheel.specs.declared.RayAnswer.the-variants.{Hit}
