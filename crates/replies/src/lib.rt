@@ -103,8 +103,7 @@ fn put_all(words: &mut [u32], r: Reading) -> usize
     requires { ⌜ length (now words) ≡ line.RESULTS ⌝ }
     ensures { λ k. ⌜ Puts (now (words .entry)) (now (words .exit)) 0 k (allResults format r) ⌝ }
 {
-    let numbers = all_numbers(r);
-    results::put_numbers(words, 0, &numbers[..SETTLED]);
+    put_floats(words, true, r);
     results::put_flag(words, SETTLED, r.noaxis);
     results::put_flag(words, SETTLED + 1, r.noforward);
     ALL
