@@ -6,11 +6,13 @@ use lib.Dec.{ltb}
 use lib.ListN.{set, replicate}
 use lib.Ieee.{Float}
 use Rattle.lists.specs.Refusal.{_or_, firstFailed}
-use Rattle.real.specs.Number.{zero, one}
+use Rattle.real.specs.Number.{zero}
 use Rattle.vector.specs.Arithmetic.{zeroV}
 use Rattle.wheel.specs.declared.Settings.{Settings}
+use Rattle.wheel.specs.declared.Steering.the-variants.{ByRotation}
 use Rattle.wheel.specs.declared.Wheel.{Wheel}
 use Rattle.wheel.specs.Parts.{withPlace, withSettings, withControls}
+use Rattle.wheel.specs.Steering.{identity, keptControls}
 use Rattle.table.specs.Layout as at
 use Rattle.table.specs.Rows.{wheelOf, putWheel}
 use Rattle.table.specs.Bounds.{storedWithin}
@@ -27,7 +29,7 @@ unfoldable pub newWheel : Settings → Wheel
 newWheel s =
     withControls
     (withPlace (withSettings blankWheel s) (record { centre = zeroV; direction = s .direction; axle = s .axle }))
-    (record { engine = zero; brake = zero; steering = record { b = zeroV; w = one } })
+    (keptControls (record { engine = zero; brake = zero; steering = ByRotation identity }))
 
 unfoldable pub refuseAdd : List Float → List ℕ → Settings → ℕ
 refuseAdd t m s =

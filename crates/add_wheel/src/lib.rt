@@ -2,10 +2,10 @@
 use refusals::handed;
 use refusals::shape;
 use table::layout::*;
-use vector::Rotation;
 use wheel::Controls;
 use wheel::Place;
 use wheel::Settings;
+use wheel::Steering;
 use wheel::Wheel;
 ghost use mathlib.Core.Path.{_≡_};
 ghost use Rattle.refusals.specs.After.{after};
@@ -31,16 +31,16 @@ fn new_wheel(s: Settings) -> Wheel
         direction,
         axle,
     };
-    let steering = Rotation { b: zero, w: 1.0 };
+    let straight = wheel::steer::identity();
     let controls = Controls {
         engine: 0.0,
         brake: 0.0,
-        steering,
+        steering: Steering::ByRotation(straight),
     };
     let mut w = blank_wheel();
     w.settings = s;
     w.place = place;
-    w.controls = controls;
+    w.controls = wheel::steer::kept_controls(controls);
     w
 }
 

@@ -1,26 +1,33 @@
--- What an accepted aim has tested: by its first tests, by all, and by its answer. Assumes nothing.
+-- What an accepted aim has tested: by its first tests, by all, and by its answer; and of its wheels as it placed them, refusal 17. Assumes nothing.
 use Prim.Native.Nat.{ℕ}
 use mathlib.Core.Bool.{true}
 use mathlib.Core.List.{List}
 use mathlib.Core.Path.{_≡_, refl, sym, _∙_}
 use lib.Ieee.{Float, Format}
+use Rattle.lists.specs.Pick.{pick}
+use Rattle.lists.specs.All.{all}
 use Rattle.lists.specs.Refusal.{firstFailed}
 use Rattle.lists.proofs.Picks.{pick-zero}
-use Rattle.lists.proofs.Refusals.{passed-of-append}
+use Rattle.lists.proofs.Refusals.{numbered, append-passed, passed-of-append}
 use Rattle.body.specs.declared.Chassis.{Chassis}
 use Rattle.table.specs.Bounds.{storedWithin}
 use Rattle.refusals.specs.Shape.{countOf}
 use Rattle.ranges.specs.Ranges.{storedInRange}
+use Rattle.refusals.specs.Steered.{allSteeredOk}
 use Rattle.refusals.specs.After.{after}
 use Rattle.refusals.proofs.Says.{Shape, shape-says}
 use Rattle.refusals.proofs.Settled.{settled-number}
 use Rattle.aim.specs.declared.Aimed.{Aimed}
-use Rattle.aim.specs.Aim.{chassisTests, placeTests, refuseAim, notAimed, aimedBy, aimOf}
+use Rattle.aim.specs.Aim.{aimedTable, chassisTests, placeTests, refuseAim, notAimed, aimedBy, aimOf}
 
 pub record AimTested (f : Format) (t : List Float) (m : List ℕ) : Type 0 where
   pub shape : Shape t m
   pub stored : storedWithin t (countOf m) ≡ true
   pub ranges : storedInRange f t (countOf m) ≡ true
+
+pub all-numbered : (f : Format) (t : List Float) (m : List ℕ) (c : Chassis) → all numbered (chassisTests f t m c) ≡ true
+unfolding chassisTests all pick
+all-numbered f t m c = refl
 
 pub chassis-tests-say : (f : Format) (t : List Float) (m : List ℕ) (c : Chassis) → firstFailed (chassisTests f t m c) ≡ 0 → AimTested f t m
 unfolding chassisTests firstFailed
@@ -35,6 +42,13 @@ chassis-tests-say f t m c h =
 pub aim-says : (f : Format) (t : List Float) (m : List ℕ) (c : Chassis) → refuseAim f t m c ≡ 0 → AimTested f t m
 unfolding refuseAim
 aim-says f t m c h = chassis-tests-say f t m c (passed-of-append (chassisTests f t m c) (placeTests f c (countOf m) t) h)
+
+-- each angle makes a rotation
+pub steered-says : (f : Format) (t : List Float) (m : List ℕ) (c : Chassis) → refuseAim f t m c ≡ 0 → allSteeredOk f (aimedTable f c (countOf m) t) (countOf m) ≡ true
+unfolding refuseAim placeTests firstFailed
+steered-says f t m c h =
+    let first = passed-of-append (chassisTests f t m c) (placeTests f c (countOf m) t) h in
+    pick-zero _ _ _ (sym (append-passed (chassisTests f t m c) (placeTests f c (countOf m) t) (all-numbered f t m c) first) ∙ h) .0
 
 -- the same of an answer with the number 0
 pub accepted-aim-says : (f : Format) (t : List Float) (m : List ℕ) (c : Chassis) {reply : Aimed} {t' : List Float} {m' : List ℕ} → after reply t' m' ≡ aimOf f t m c → reply .number ≡ 0 → AimTested f t m

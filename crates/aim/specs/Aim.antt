@@ -18,6 +18,7 @@ use Rattle.passes.specs.Passes.{eachGives, transforms}
 use Rattle.refusals.specs.Shape.{countOf, forwardOf, shapeOk}
 use Rattle.ranges.specs.Ranges.{chassisInRange, storedInRange}
 use Rattle.refusals.specs.Handed.{chassisHanded}
+use Rattle.refusals.specs.Steered.{allSteeredOk}
 use Rattle.refusals.specs.After.{After, after, settled, marked}
 use Rattle.aim.specs.declared.Sight.{Sight}
 use Rattle.aim.specs.declared.Aimed.{Aimed}
@@ -41,7 +42,7 @@ sightOf f w = record { hard = w .info .hard; ray = rayOf f w }
 unfoldable pub sightsOf : Format → ℕ → List Float → List Sight
 sightsOf f n t = eachGives (sightOf f) noSight n t
 
--- ---- the refusals, in the order 1, 2, 10, 8
+-- ---- the refusals, in the order 1, 2, 10, 17, 8 (change request 2026-11: "17, straight after 10")
 unfoldable pub chassisTests : Format → List Float → List ℕ → Chassis → List Test
 chassisTests f t m c =
     shapeOk t m or 1
@@ -52,7 +53,7 @@ chassisTests f t m c =
     ∷ []
 
 unfoldable pub placeTests : Format → Chassis → ℕ → List Float → List Test
-placeTests f c n t = storedWithin (aimedTable f c n t) n or 8 ∷ []
+placeTests f c n t = allSteeredOk f (aimedTable f c n t) n or 17 ∷ storedWithin (aimedTable f c n t) n or 8 ∷ []
 
 unfoldable pub refuseAim : Format → List Float → List ℕ → Chassis → ℕ
 refuseAim f t m c = firstFailed (chassisTests f t m c ++ placeTests f c (countOf m) t)

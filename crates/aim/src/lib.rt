@@ -1,7 +1,9 @@
 // Aim: the chassis kept, the wheels placed under it, and what the host casts.
 use body::Chassis;
+use refusals::WheelTest;
 use refusals::handed;
 use refusals::shape;
+use refusals::wheels;
 use table::layout::*;
 use vector::Vector;
 use wheel::Wheel;
@@ -105,7 +107,7 @@ fn refuse_chassis(table: &[f32], whole: &[u32], c: Chassis) -> u32
     if !ranges::is_chassis_in_range(c) {
         return 10;
     }
-    if !ranges::is_stored_in_range(table, count) {
+    if !wheels::holds_of_wheels(WheelTest::InRange, table, count) {
         return 10;
     }
     0
@@ -125,7 +127,8 @@ fn aimed_table(table: &mut [f32], n: usize, c: Chassis)
 // Answers the number 0 with the signed speed and, for each wheel, where its ray starts and the ray; or refuses with the first that holds,
 // and zeros: 1, no vehicle's table; 2, a number handed in that is not finite or above 2^20 in magnitude, or a stored one that is not finite
 // or above 2^40; 10, a chassis whose inverse mass is not from 2^-20 to 2^20 or whose rotation's sum of squares is not from 1 - 2^-10 to
-// 1 + 2^-10, or a stored setting out of its range; 8, a new number that could not be stored.
+// 1 + 2^-10, or a stored setting out of its range; 17, a wheel steered by an angle whose world direction has no unit length, or with whose
+// axis the angle makes no rotation of unit length; 8, a new number that could not be stored.
 pub fn aim(table: &mut [f32], whole: &mut [u32], c: Chassis) -> Aimed
     ensures { λ r. ⌜ after r (now (table .exit)) (now (whole .exit)) ≡ aimOf binary32 (now (table .entry)) (now (whole .entry)) c ⌝ }
 {
@@ -138,6 +141,9 @@ pub fn aim(table: &mut [f32], whole: &mut [u32], c: Chassis) -> Aimed
     let mut work = [0.0; SIZE];
     table::rows::copy(&mut work, &table[..]);
     aimed_table(&mut work, n, c);
+    if !wheels::holds_of_wheels(WheelTest::Steered, &work, n) {
+        return not_aimed(17);
+    }
     if !table::bounds::stored_within(&work, n) {
         return not_aimed(8);
     }

@@ -1,7 +1,9 @@
 // The tests of a drive that come before its step: refusals 1, 5, 6, 2, 12 and 10.
 use refusals::AnswerTest;
+use refusals::WheelTest;
 use refusals::answers;
 use refusals::shape;
+use refusals::wheels;
 use table::bounds::HANDED;
 use table::layout::*;
 use wheel::RayAnswer;
@@ -88,7 +90,7 @@ fn refuse_ranges(table: &[f32], dt: f32, bodies: &[f32], count: usize, n: usize)
     if !ranges::are_bodies_in_range(bodies, count) {
         return 10;
     }
-    if !ranges::is_stored_in_range(table, n) {
+    if !wheels::holds_of_wheels(WheelTest::InRange, table, n) {
         return 10;
     }
     if !ranges::is_chassis_in_range(table::rows::get_chassis(table)) {

@@ -11,7 +11,7 @@ use Rattle.set_controls.specs.Controls.{setControls}
 use Rattle.read_wheel.specs.declared.Reading.{Reading}
 use Rattle.read_wheel.specs.Read.{ALL, allList, readWheel}
 use Rattle.table.specs.Layout as table
-use Rattle.table.specs.Rows.{settingsAt, controlsAt, chassisOf}
+use Rattle.table.specs.Rows.{settingsAt, byRotationAt, byAngleAt, chassisOf}
 use Rattle.aim.specs.declared.Aimed.{Aimed}
 use Rattle.aim.specs.Aim.{aimOf}
 use Rattle.drive.specs.declared.Driven.{Driven}
@@ -26,7 +26,11 @@ unfoldable pub flatAdd : List Float → List ℕ → List Float → After ℕ
 flatAdd t m settings = settled (firstFailed (ofLength settings table.SETTINGS ∷ [])) (λ n. n) (addWheel t m (settingsAt settings 0)) t m
 
 unfoldable pub flatControls : Format → List Float → List ℕ → ℕ → List Float → After ℕ
-flatControls f t m wheel controls = settled (firstFailed (ofLength controls table.CONTROLS ∷ [])) (λ n. n) (setControls f t m wheel (controlsAt controls 0)) t m
+flatControls f t m wheel controls = settled (firstFailed (ofLength controls table.BY-ROTATION ∷ [])) (λ n. n) (setControls f t m wheel (byRotationAt controls 0)) t m
+
+-- with an angle in place of the rotation
+unfoldable pub flatControlsByAngle : Format → List Float → List ℕ → ℕ → List Float → After ℕ
+flatControlsByAngle f t m wheel controls = settled (firstFailed (ofLength controls table.BY-ANGLE ∷ [])) (λ n. n) (setControls f t m wheel (byAngleAt controls 0)) t m
 
 -- the results of a read have the two answers on the directions last
 unfoldable pub flatRead : Format → List Float → List ℕ → ℕ → List Float → After Flat

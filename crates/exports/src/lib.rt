@@ -1,5 +1,5 @@
 // The functions that a host links: `rt staticlib exports` puts them into one archive. They are the six calls on
-// numbers and flat lists; a list is a pointer and a length. Each is total on every length and every number, answers the refusal number of its
+// numbers and flat lists, set controls in two forms; a list is a pointer and a length. Each is total on every length and every number, answers the refusal number of its
 // call, and refuses with 1, before all else, a list of settings, controls, chassis or results of the wrong length. Results are written only
 // where the answer is 0.
 use drive::Driven;
@@ -10,6 +10,7 @@ ghost use mathlib.Core.Bool.{true};
 ghost use lib.ListN.{length};
 ghost use lib.Ieee.{binary32};
 ghost use Rattle.real.specs.Root.{rootOf};
+ghost use Rattle.angle.specs.Angle.{sineOf, cosineOf};
 ghost use Rattle.refusals.specs.After.{after};
 ghost use Rattle.table.specs.Layout as lent;
 ghost use Rattle.set_up.specs.SetUp.{setUp};
@@ -19,7 +20,7 @@ ghost use Rattle.flat_in.specs.Lists.{listsFit, frameIn};
 ghost use Rattle.flat_out.specs.Layout as at;
 ghost use Rattle.flat_in.specs.Layout as rays;
 ghost use Rattle.flat_out.specs.Ends.{flat};
-ghost use Rattle.exports.specs.Calls.{flatAdd, flatControls, flatRead, flatAim, flatDrive};
+ghost use Rattle.exports.specs.Calls.{flatAdd, flatControls, flatControlsByAngle, flatRead, flatAim, flatDrive};
 
 // The square root of x, correctly rounded. A NaN, and a number below zero, give a NaN.
 #[no_mangle]
@@ -27,6 +28,24 @@ pub extern "C" fn vehicle_root(x: f32) -> f32
     ensures { λ r. ⌜ r ≡ rootOf binary32 x ⌝ }
 {
     real::root::root(x)
+}
+
+// The sine of half a steering angle, which is from -1 to 1.
+#[no_mangle]
+pub extern "C" fn vehicle_sine(half: f32) -> f32
+    ensures { λ r. ⌜ r ≡ sineOf binary32 half ⌝ }
+{
+    let turn = angle::sine_cosine(half);
+    turn.sine
+}
+
+// Its cosine.
+#[no_mangle]
+pub extern "C" fn vehicle_cosine(half: f32) -> f32
+    ensures { λ r. ⌜ r ≡ cosineOf binary32 half ⌝ }
+{
+    let turn = angle::sine_cosine(half);
+    turn.cosine
 }
 
 // Makes the lent numbers a vehicle with no wheels: `set_up::set_up`.
@@ -52,7 +71,7 @@ pub extern "C" fn vehicle_add_wheel(table: &mut [f32], whole: &mut [u32], settin
     add_wheel::add_wheel(table, whole, s)
 }
 
-// Sets the controls of one wheel: `set_controls::set_controls`.
+// Sets the controls of one wheel, steered by a rotation: `set_controls::set_controls`.
 // Takes: a vehicle; the wheel's number; the controls, vehicle_controls_len numbers: engine force, brake, and the steering's x, y, z, w.
 #[no_mangle]
 pub extern "C" fn vehicle_set_controls(
@@ -63,10 +82,28 @@ pub extern "C" fn vehicle_set_controls(
 ) -> u32
     ensures { λ r. ⌜ after r (now (table .exit)) (now (whole .exit)) ≡ flatControls binary32 (now (table .entry)) (now (whole .entry)) wheel (now (controls .entry)) ⌝ }
 {
-    if controls.len() != lent::CONTROLS {
+    if controls.len() != lent::BY_ROTATION {
         return 1;
     }
-    let c = table::parts::controls_at(controls, 0);
+    let c = table::parts::by_rotation_at(controls, 0);
+    set_controls::set_controls(table, whole, wheel, c)
+}
+
+// Sets the controls of one wheel, steered by an angle: `set_controls::set_controls`.
+// Takes: a vehicle; the wheel's number; the controls, vehicle_controls_by_angle_len numbers: engine force, brake, and the angle.
+#[no_mangle]
+pub extern "C" fn vehicle_set_controls_by_angle(
+    table: &mut [f32],
+    whole: &mut [u32],
+    wheel: u32,
+    controls: &[f32],
+) -> u32
+    ensures { λ r. ⌜ after r (now (table .exit)) (now (whole .exit)) ≡ flatControlsByAngle binary32 (now (table .entry)) (now (whole .entry)) wheel (now (controls .entry)) ⌝ }
+{
+    if controls.len() != lent::BY_ANGLE {
+        return 1;
+    }
+    let c = table::parts::by_angle_at(controls, 0);
     set_controls::set_controls(table, whole, wheel, c)
 }
 
@@ -198,12 +235,20 @@ pub extern "C" fn vehicle_settings_len() -> u32
     lent::SETTINGS as u32
 }
 
-// How many numbers the controls of a wheel are.
+// How many numbers the controls of a wheel are, as they are handed in with a rotation.
 #[no_mangle]
 pub extern "C" fn vehicle_controls_len() -> u32
-    ensures { λ r. ⌜ r ≡ lent.CONTROLS ⌝ }
+    ensures { λ r. ⌜ r ≡ lent.BY-ROTATION ⌝ }
 {
-    lent::CONTROLS as u32
+    lent::BY_ROTATION as u32
+}
+
+// How many they are with an angle.
+#[no_mangle]
+pub extern "C" fn vehicle_controls_by_angle_len() -> u32
+    ensures { λ r. ⌜ r ≡ lent.BY-ANGLE ⌝ }
+{
+    lent::BY_ANGLE as u32
 }
 
 // How many numbers a chassis is.

@@ -130,6 +130,7 @@ most-asked Asked.Read = omega arith
 most-asked Asked.AddRolled = omega arith
 most-asked Asked.ReadSettled = omega arith
 most-asked Asked.ReadAll = omega arith
+most-asked Asked.ControlsByAngle = omega arith
 most-asked Asked.Unknown = omega arith
 
 most-kind : (k n : ℕ) → most (afterKind k n) < (1 + n) * at.ANSWER-WORDS

@@ -37,7 +37,8 @@ asked c =
     pick (eqb c at.ADD-ROLLED) Asked.AddRolled (
     pick (eqb c at.READ-SETTLED) Asked.ReadSettled (
     pick (eqb c at.READ-ALL) Asked.ReadAll (
-    Asked.Unknown)))))))))
+    pick (eqb c at.CONTROLS-BY-ANGLE) Asked.ControlsByAngle (
+    Asked.Unknown))))))))))
 
 -- after a code
 unfoldable pub afterAsked : Asked → Place
@@ -50,6 +51,7 @@ afterAsked Asked.Read = 0 then Wheel at.READ-FLOATS
 afterAsked Asked.AddRolled = at.ADD-ROLLED-FLOATS then End
 afterAsked Asked.ReadSettled = 0 then Wheel at.READ-FLOATS
 afterAsked Asked.ReadAll = 0 then Wheel at.READ-FLOATS
+afterAsked Asked.ControlsByAngle = 0 then Wheel at.CONTROLS-BY-ANGLE-FLOATS
 afterAsked Asked.Unknown = 0 then Bad
 
 -- n more bodies, then the answers

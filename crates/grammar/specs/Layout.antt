@@ -35,6 +35,13 @@ CONTROLS = 2
 abbrev pub CONTROLS-FLOATS : ℕ
 CONTROLS-FLOATS = 6
 
+-- change request 2026-11: "code 2 with the angle in place of the rotation"
+abbrev pub CONTROLS-BY-ANGLE : ℕ
+CONTROLS-BY-ANGLE = 10
+
+abbrev pub CONTROLS-BY-ANGLE-FLOATS : ℕ
+CONTROLS-BY-ANGLE-FLOATS = 3
+
 abbrev pub AIM : ℕ
 AIM = 3
 

@@ -54,6 +54,7 @@ pub fn asked(code: u32) -> Asked
         ADD_ROLLED => Asked::AddRolled,
         READ_SETTLED => Asked::ReadSettled,
         READ_ALL => Asked::ReadAll,
+        CONTROLS_BY_ANGLE => Asked::ControlsByAngle,
         _ => Asked::Unknown,
     }
 }
@@ -72,6 +73,7 @@ fn after_asked(asked: Asked) -> Place
         Asked::AddRolled => then(ADD_ROLLED_FLOATS, Mark::End),
         Asked::ReadSettled => then(0, Mark::Wheel(READ_FLOATS)),
         Asked::ReadAll => then(0, Mark::Wheel(READ_FLOATS)),
+        Asked::ControlsByAngle => then(0, Mark::Wheel(CONTROLS_BY_ANGLE_FLOATS)),
         Asked::Unknown => then(0, Mark::Bad),
     }
 }

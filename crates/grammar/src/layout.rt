@@ -19,6 +19,10 @@ pub const CONTROLS: u32 = 2;
 
 pub const CONTROLS_FLOATS: u32 = 6;
 
+pub const CONTROLS_BY_ANGLE: u32 = 10;
+
+pub const CONTROLS_BY_ANGLE_FLOATS: u32 = 3;
+
 pub const AIM: u32 = 3;
 
 pub const AIM_FLOATS: u32 = 26;

@@ -13,6 +13,7 @@ pub enum Asked {
     AddRolled,
     ReadSettled,
     ReadAll,
+    ControlsByAngle,
     Unknown,
 }
 

@@ -8,6 +8,7 @@ use lib.ListN.{length, replicate}
 use Rattle.lists.specs.Pick.{pick}
 use Rattle.lists.specs.Part.{paste}
 use Rattle.wheel.specs.declared.Settings.{Settings}
+use Rattle.wheel.specs.declared.Controls.{Controls}
 use Rattle.wheel.specs.declared.RayAnswer.the-variants.{Nothing}
 use Rattle.wheel.specs.Ray.{answerAt}
 use Rattle.ground.specs.Frame.{Frame, frame}
@@ -22,7 +23,7 @@ use Rattle.drive.specs.Drive.{driveOf}
 use Rattle.grammar.specs.declared.Asked.{Asked}
 use Rattle.grammar.specs.Layout as code
 use Rattle.grammar.specs.Grammar.{asked}
-use Rattle.scenario.specs.Decode.{numberFrom, rolledFrom, settingsFrom, wheelFrom, controlsFrom, chassisFrom}
+use Rattle.scenario.specs.Decode.{numberFrom, rolledFrom, settingsFrom, wheelFrom, controlsFrom, controlsByAngleFrom, chassisFrom}
 use Rattle.frame_words.specs.Frame.{stepFrom, bodyCountFrom, bodiesFrom, flagsFrom, answerCountFrom, answersStart, answersFrom}
 use Rattle.perform.specs.declared.Answer.{Answer}
 use Rattle.replies.specs.Replies.{aimResults, driveResults, readResults, settledResults, allResults}
@@ -49,8 +50,9 @@ numbered x = told (λ n. n) (λ n. []) x
 abbrev pub addCall : Settings → List Float → List ℕ → After Answered
 addCall s t m = numbered (addWheel t m s)
 
-abbrev pub controlsCall : Format → List ℕ → List Float → List ℕ → After Answered
-controlsCall f l t m = numbered (setControls f t m (wheelFrom l) (controlsFrom f l))
+-- controls of the wheel that the code names, with the steering that it has
+abbrev pub controlsCall : Format → Controls → List ℕ → List Float → List ℕ → After Answered
+controlsCall f c l t m = numbered (setControls f t m (wheelFrom l) c)
 
 abbrev pub aimCall : Format → List ℕ → List Float → List ℕ → After Answered
 aimCall f l t m = told (λ r. r .number) (aimResults f (countOf m)) (aimOf f t m (chassisFrom f l))
@@ -80,13 +82,14 @@ noCall t m = after (answered 0 []) t m
 unfoldable pub callFor : Format → Asked → List ℕ → List Float → List ℕ → After Answered
 callFor f Asked.End l t m = noCall t m
 callFor f Asked.Add l t m = addCall (settingsFrom f l) t m
-callFor f Asked.Controls l t m = controlsCall f l t m
+callFor f Asked.Controls l t m = controlsCall f (controlsFrom f l) l t m
 callFor f Asked.Aim l t m = aimCall f l t m
 callFor f Asked.Drive l t m = driveCall f l t m
 callFor f Asked.Read l t m = readCall f (readResults f) l t m
 callFor f Asked.AddRolled l t m = addCall (rolledFrom f l) t m
 callFor f Asked.ReadSettled l t m = readCall f (settledResults f) l t m
 callFor f Asked.ReadAll l t m = readCall f (allResults f) l t m
+callFor f Asked.ControlsByAngle l t m = controlsCall f (controlsByAngleFrom f l) l t m
 callFor f Asked.Unknown l t m = noCall t m
 
 unfoldable pub callOf : Format → List ℕ → List Float → List ℕ → After Answered

@@ -2,6 +2,7 @@
 use super::Answer;
 use replies::Extent;
 use scenario::decode;
+use wheel::Controls;
 ghost use mathlib.Core.Path.{_≡_};
 ghost use lib.ListN.{length};
 ghost use Rattle.refusals.specs.After.{after};
@@ -9,17 +10,17 @@ ghost use Rattle.set_controls.specs.Controls.{setControls};
 ghost use Rattle.grammar.specs.Layout as code;
 ghost use Rattle.lines.specs.Layout as line;
 ghost use Rattle.scenario.specs.Format.{format};
-ghost use Rattle.scenario.specs.Decode.{wheelFrom, controlsFrom};
+ghost use Rattle.scenario.specs.Decode.{wheelFrom};
 ghost use Rattle.replies.specs.Replies.{resultsOf};
 ghost use Rattle.perform.specs.Call.{readCall, Performs};
 
-// Sets the controls of the words. Answers the number of the call.
-pub fn call_controls(words: &[u32], table: &mut [f32], whole: &mut [u32]) -> u32
+// Sets the controls of the wheel that the words name. Answers the number of the call.
+pub fn call_controls(words: &[u32], table: &mut [f32], whole: &mut [u32], c: Controls) -> u32
     requires { ⌜ length (now words) ≡ code.CODE-WORDS ⌝ }
-    ensures { λ r. ⌜ after r (now (table .exit)) (now (whole .exit)) ≡ setControls format (now (table .entry)) (now (whole .entry)) (wheelFrom (now (words .entry))) (controlsFrom format (now (words .entry))) ⌝ }
+    ensures { λ r. ⌜ after r (now (table .exit)) (now (whole .exit)) ≡ setControls format (now (table .entry)) (now (whole .entry)) (wheelFrom (now (words .entry))) c ⌝ }
 {
     let wheel = decode::wheel_from(words);
-    set_controls::set_controls(table, whole, wheel, decode::controls_from(words))
+    set_controls::set_controls(table, whole, wheel, c)
 }
 
 // Reads the wheel that the words name; if accepted, its numbers go into the results, to this extent.

@@ -45,7 +45,8 @@ pub fn perform(words: &[u32], table: &mut [f32], whole: &mut [u32], results: &mu
             Answer { number, count: 0 }
         }
         Asked::Controls => {
-            let number = calls::call_controls(words, table, whole);
+            let c = decode::controls_from(words);
+            let number = calls::call_controls(words, table, whole, c);
             Answer { number, count: 0 }
         }
         Asked::Aim => frames::call_aim(words, table, whole, results),
@@ -59,6 +60,11 @@ pub fn perform(words: &[u32], table: &mut [f32], whole: &mut [u32], results: &mu
             calls::call_read(words, &table[..], &whole[..], Extent::Settled, results)
         }
         Asked::ReadAll => calls::call_read(words, &table[..], &whole[..], Extent::All, results),
+        Asked::ControlsByAngle => {
+            let c = decode::controls_by_angle_from(words);
+            let number = calls::call_controls(words, table, whole, c);
+            Answer { number, count: 0 }
+        }
         Asked::Unknown => no_call(),
     }
 }

@@ -13,8 +13,9 @@ use Rattle.real.specs.Number.{zero, one}
 use Rattle.vector.specs.declared.Rotation.{Rotation}
 use Rattle.wheel.specs.declared.Settings.{Settings}
 use Rattle.wheel.specs.declared.Controls.{Controls}
+use Rattle.wheel.specs.Steering.{controlsOf}
 use Rattle.table.specs.Rows.{wheelAt}
-use Rattle.ranges.specs.Ranges.{inRange, inUnit, notNegative, settingsInRange, sumOfSquares, BAND-LOW, BAND-HIGH, inBand, rotationInRange, controlsInRange, wheelInRange, storedInRange}
+use Rattle.ranges.specs.Ranges.{inRange, inUnit, notNegative, settingsInRange, sumOfSquares, BAND-LOW, BAND-HIGH, inBand, rotationInRange, steeringInRange, controlsInRange, wheelInRange, storedInRange}
 
 pub record Between (low high x : Float) : Type 0 where
   pub above : le low x ≡ true
@@ -74,13 +75,13 @@ settings-say s h =
 
 pub record ControlsRange (f : Format) (c : Controls) : Type 0 where
   pub brake : le zero (c .brake) ≡ true
-  pub steering : Between BAND-LOW BAND-HIGH (sumOfSquares f (c .steering))
+  pub steering : steeringInRange f (c .steering) ≡ true
 
 pub controls-say : (f : Format) (c : Controls) → controlsInRange f c ≡ true → ControlsRange f c
 unfolding controlsInRange notNegative
 controls-say f c h =
     let p = pick-true _ _ h in
-    record { brake = p .0; steering = rotation-says f (c .steering) (p .1) }
+    record { brake = p .0; steering = p .1 }
 
 -- what was tested of each number up to n
 pub up-to : (p : ℕ → Bool) (n i : ℕ) → every p n 0 ≡ true → i < n → p i ≡ true
@@ -88,13 +89,13 @@ up-to p n i h l = every-at p n 0 i h (omega arith) (omega arith)
 
 pub record WheelRange (f : Format) (t : List Float) (i : ℕ) : Type 0 where
   pub settings : SettingsRange (wheelAt t i .settings)
-  pub controls : ControlsRange f (wheelAt t i .controls)
+  pub controls : ControlsRange f (controlsOf (wheelAt t i .controls))
 
 pub wheel-says : (f : Format) (t : List Float) (i : ℕ) → wheelInRange f t i ≡ true → WheelRange f t i
 unfolding wheelInRange
 wheel-says f t i h =
     let p = pick-true _ _ h in
-    record { settings = settings-say (wheelAt t i .settings) (p .0); controls = controls-say f (wheelAt t i .controls) (p .1) }
+    record { settings = settings-say (wheelAt t i .settings) (p .0); controls = controls-say f (controlsOf (wheelAt t i .controls)) (p .1) }
 
 pub stored-settings-say : (f : Format) (t : List Float) (n i : ℕ) → storedInRange f t n ≡ true → i < n → wheelInRange f t i ≡ true
 unfolding storedInRange

@@ -3,15 +3,18 @@ use Prim.Native.Nat.{ℕ}
 use mathlib.Core.Bool.{Bool, false}
 use mathlib.Core.List.{List, [], _∷_}
 use lib.IntN.{negsuc}
-use lib.Ieee.{Float, Format, fin, add, mul, lt, le}
+use lib.Ieee.{Float, Format, fin, neg, add, mul, lt, le}
 use Rattle.lists.specs.Pick.{_and_}
 use Rattle.lists.specs.All.{all}
 use Rattle.lists.specs.Counted.{every}
-use Rattle.real.specs.Number.{zero, one, power}
+use Rattle.real.specs.Number.{zero, one, two, power}
 use Rattle.vector.specs.declared.Rotation.{Rotation}
 use Rattle.body.specs.declared.Chassis.{Chassis}
 use Rattle.wheel.specs.declared.Settings.{Settings}
+use Rattle.wheel.specs.declared.Steering.{Steering}
+use Rattle.wheel.specs.declared.Steering.the-variants.{ByRotation, ByAngle}
 use Rattle.wheel.specs.declared.Controls.{Controls}
+use Rattle.wheel.specs.Steering.{controlsOf}
 use Rattle.table.specs.Rows.{wheelAt, bodyAt}
 
 -- x from `low` to `high`, both accepted; a NaN is in no range
@@ -50,9 +53,14 @@ inBand x = inRange BAND-LOW BAND-HIGH x
 unfoldable pub rotationInRange : Format → Rotation → Bool
 rotationInRange f q = inBand (sumOfSquares f q)
 
--- brake at least 0, and the steering's rotation
+-- the steering's rotation; or its angle, "from −2 to 2 radians" (change request 2026-11)
+unfoldable pub steeringInRange : Format → Steering → Bool
+steeringInRange f (ByRotation q) = rotationInRange f q
+steeringInRange f (ByAngle angle) = inRange (neg two) two angle
+
+-- brake at least 0, and the steering
 unfoldable pub controlsInRange : Format → Controls → Bool
-controlsInRange f c = notNegative (c .brake) and rotationInRange f (c .steering)
+controlsInRange f c = notNegative (c .brake) and steeringInRange f (c .steering)
 
 -- chassis inverse mass from 2^-20 to 2^20, and its rotation
 abbrev pub LEAST-INVMASS : Float
@@ -68,9 +76,9 @@ bodyInRange bodies i = notNegative (bodyAt bodies i .invmass)
 unfoldable pub bodiesInRange : List Float → ℕ → Bool
 bodiesInRange bodies n = every (bodyInRange bodies) n 0
 
--- every stored setting of the first n rows
+-- every stored setting of the first n rows; of the two steerings the one that was given
 unfoldable pub wheelInRange : Format → List Float → ℕ → Bool
-wheelInRange f t i = settingsInRange (wheelAt t i .settings) and controlsInRange f (wheelAt t i .controls)
+wheelInRange f t i = settingsInRange (wheelAt t i .settings) and controlsInRange f (controlsOf (wheelAt t i .controls))
 
 unfoldable pub storedInRange : Format → List Float → ℕ → Bool
 storedInRange f t n = every (wheelInRange f t) n 0

@@ -3,18 +3,22 @@ use body::Chassis;
 use vector::Rotation;
 use wheel::Controls;
 use wheel::Settings;
+use wheel::Steering;
 ghost use mathlib.Core.Path.{_≡_};
 ghost use Prim.Native.Nat.{_*_, _<_, _≤_};
 ghost use lib.ListN.{length};
 ghost use lib.Ieee.{binary32};
 ghost use Rattle.table.specs.Layout as at;
 ghost use Rattle.lists.specs.All.{all};
-ghost use Rattle.ranges.specs.Ranges.{inRange, inUnit, notNegative, settingsInRange, sumOfSquares, inBand, rotationInRange, controlsInRange, chassisInRange, bodiesInRange, wheelInRange, storedInRange};
+ghost use Rattle.ranges.specs.Ranges.{inRange, inUnit, notNegative, settingsInRange, sumOfSquares, inBand, rotationInRange, steeringInRange, controlsInRange, chassisInRange, bodiesInRange, wheelInRange};
 
 // 1 - 2^-10 and 1 + 2^-10, of a rotation's sum of squares and of a normal's.
 const BAND_LOW: f32 = 0.9990234375;
 
 const BAND_HIGH: f32 = 1.0009765625;
+
+// Of a steering angle, either way.
+const MOST_ANGLE: f32 = 2.0;
 
 // 2^-20 and 2^20, of the chassis' inverse mass.
 const LEAST_INVMASS: f32 = 0.00000095367431640625;
@@ -93,19 +97,30 @@ pub fn is_in_band(x: f32) -> bool
     is_in_range(BAND_LOW, BAND_HIGH, x)
 }
 
-fn is_rotation_in_range(q: Rotation) -> bool
+pub fn is_rotation_in_range(q: Rotation) -> bool
     ensures { λ r. ⌜ r ≡ rotationInRange binary32 q ⌝ }
 {
     is_in_band(sum_of_squares(q))
 }
 
+// Whether a steering's rotation, or its angle, is in its range.
+fn is_steering_in_range(s: Steering) -> bool
+    ensures { λ r. ⌜ r ≡ steeringInRange binary32 s ⌝ }
+{
+    match s {
+        Steering::ByRotation(q) => is_rotation_in_range(q),
+        Steering::ByAngle(angle) => is_in_range(-MOST_ANGLE, MOST_ANGLE, angle),
+    }
+}
+
 pub fn are_controls_in_range(c: Controls) -> bool
     ensures { λ r. ⌜ r ≡ controlsInRange binary32 c ⌝ }
 {
+    let s = c.steering;
     if !is_not_negative(c.brake) {
         return false;
     }
-    is_rotation_in_range(c.steering)
+    is_steering_in_range(s)
 }
 
 pub fn is_chassis_in_range(c: Chassis) -> bool
@@ -136,7 +151,7 @@ pub fn are_bodies_in_range(bodies: &[f32], n: usize) -> bool
 }
 
 // Whether each stored setting of wheel i is in its range.
-fn is_wheel_in_range(table: &[f32], i: usize) -> bool
+pub fn is_wheel_in_range(table: &[f32], i: usize) -> bool
     requires { ⌜ (length (now table) ≡ at.SIZE) × (i < at.WHEELS) ⌝ }
     ensures { λ r. ⌜ r ≡ wheelInRange binary32 (now (table .entry)) i ⌝ }
 {
@@ -144,21 +159,5 @@ fn is_wheel_in_range(table: &[f32], i: usize) -> bool
     if !are_settings_in_range(w.settings) {
         return false;
     }
-    are_controls_in_range(w.controls)
-}
-
-// The same of each of the first n wheels.
-pub fn is_stored_in_range(table: &[f32], n: usize) -> bool
-    requires { ⌜ (length (now table) ≡ at.SIZE) × (n ≤ at.WHEELS) ⌝ }
-    ensures { λ r. ⌜ r ≡ storedInRange binary32 (now (table .entry)) n ⌝ }
-{
-    let mut i = 0usize;
-    while i < n {
-        if is_wheel_in_range(table, i) {
-            i += 1usize;
-        } else {
-            return false;
-        }
-    }
-    true
+    are_controls_in_range(wheel::steer::controls_of(w.controls))
 }

@@ -1,22 +1,27 @@
--- What a test that did not refuse tells its caller, a record for each. In order: refusal 1 (sizes, the whole shape); refusal 6 (one answer, the first n); refusal 12 (the first n). What refusal 10 tells stands in crate `ranges`,
+-- What a test that did not refuse tells its caller, a record for each. In order: refusal 1 (sizes, the whole shape); refusal 6 (one answer, the first n); refusal 12 (the first n); refusal 17 (the first n, one angle). What refusal 10 tells stands in crate `ranges`,
 -- what refusal 2 tells in the table's laws. Assumes nothing.
 use Prim.Native.Nat.{ℕ, _≤_, _<_}
-use mathlib.Core.Bool.{Bool, true, false, not}
+use mathlib.Core.Bool.{Bool, true, false, not, cond, true≢false}
 use mathlib.Core.List.{List}
-use mathlib.Core.Path.{_≡_}
+use mathlib.Core.Path.{_≡_, refl, sym}
 use native.Mathlib.Omega.{arith}
 use borrow.Author.Tests.{eqb-true, leb-true}
 use lib.ListN.{length}
 use lib.Ieee.{Float, Format}
 use Rattle.lists.proofs.Picks.{pick-true, told-yes}
 use Rattle.real.specs.Number.{zero, one}
+use Rattle.vector.specs.declared.Vector.{Vector}
 use Rattle.wheel.specs.declared.RayAnswer.{RayAnswer}
 use Rattle.wheel.specs.declared.RayAnswer.the-variants.{Nothing, Hit, HitUp}
+use Rattle.wheel.specs.Steering.{steeringAxis, rotationFromAngle}
 use Rattle.table.specs.Layout as at
+use Rattle.table.specs.Rows.{wheelAt}
+use Rattle.ranges.specs.Ranges.{rotationInRange}
 use Rattle.refusals.specs.Shape.{countOf, markOf, upOf, forwardOf, sizesOk, axesOk, statusOk, shapeOk}
 use Rattle.wheel.specs.Ray.{namedOf}
 use Rattle.refusals.specs.Handed.{hitOk, answerOk, answersOk}
 use Rattle.refusals.specs.Normals.{normalsOk, allNormalsOk}
+use Rattle.refusals.specs.Steered.{turnOk, wheelSteeredOk, allSteeredOk}
 use Rattle.ranges.proofs.Says.{Between, unit-says, up-to}
 
 -- ---- refusal 1
@@ -91,3 +96,23 @@ answers-say bodies answer n i h l = answer-says bodies (answer i) (up-to (λ j. 
 pub normals-say : (f : Format) (answer : ℕ → RayAnswer) (n i : ℕ) → allNormalsOk f answer n ≡ true → i < n → normalsOk f (answer i) ≡ true
 unfolding allNormalsOk
 normals-say f answer n i h l = up-to (λ j. normalsOk f (answer j)) n i h l
+
+-- ---- refusal 17
+pub steered-say : (f : Format) (t : List Float) (n i : ℕ) → allSteeredOk f t n ≡ true → i < n → wheelSteeredOk f (wheelAt t i) ≡ true
+unfolding allSteeredOk
+steered-say f t n i h l = up-to (λ j. wheelSteeredOk f (wheelAt t j)) n i h l
+
+-- an angle whose axis did not fall back, and whose rotation is in the band
+pub record TurnTested (f : Format) (direction : Vector) (angle : Float) : Type 0 where
+  pub axis : steeringAxis f direction .fellback ≡ false
+  pub rotation : rotationInRange f (rotationFromAngle f (steeringAxis f direction .vector) angle) ≡ true
+
+pub turn-says : (f : Format) (direction : Vector) (angle : Float) → turnOk f direction angle ≡ true → TurnTested f direction angle
+unfolding turnOk
+turn-says f direction angle h =
+    let p = both (steeringAxis f direction .fellback) _ h in
+    record { axis = p .0; rotation = p .1 }
+  where
+    both : (a b : Bool) → cond a false b ≡ true → (a ≡ false) × (b ≡ true)
+    both true b h = absurd (true≢false (sym h))
+    both false b h = (refl, h)

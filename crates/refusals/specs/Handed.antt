@@ -11,7 +11,7 @@ use Rattle.wheel.specs.declared.Settings.{Settings}
 use Rattle.wheel.specs.declared.Controls.{Controls}
 use Rattle.wheel.specs.declared.RayAnswer.{RayAnswer}
 use Rattle.wheel.specs.declared.RayAnswer.the-variants.{Nothing, Hit, HitUp}
-use Rattle.table.specs.Rows.{vectorList, settingsList, controlsList, chassisList}
+use Rattle.table.specs.Rows.{vectorList, settingsList, handedControls, chassisList}
 use Rattle.table.specs.Bounds.{allWithin, HANDED}
 use Rattle.ranges.specs.Ranges.{inUnit}
 
@@ -20,7 +20,7 @@ unfoldable pub settingsHanded : Settings → Bool
 settingsHanded s = allWithin HANDED (settingsList s)
 
 unfoldable pub controlsHanded : Controls → Bool
-controlsHanded c = allWithin HANDED (controlsList c)
+controlsHanded c = allWithin HANDED (handedControls c)
 
 unfoldable pub chassisHanded : Chassis → Bool
 chassisHanded c = allWithin HANDED (chassisList c)

@@ -5,6 +5,7 @@ use vector::Vector;
 use wheel::Controls;
 use wheel::RayAnswer;
 use wheel::Settings;
+use wheel::Steering;
 ghost use mathlib.Core.Path.{_≡_};
 ghost use Rattle.refusals.specs.Handed.{settingsHanded, controlsHanded, chassisHanded, vectorHanded, normalsHanded, hitOk, answerOk};
 
@@ -18,8 +19,17 @@ pub fn are_settings_handed(s: Settings) -> bool
 pub fn are_controls_handed(c: Controls) -> bool
     ensures { λ r. ⌜ r ≡ controlsHanded c ⌝ }
 {
-    let numbers = table::parts::controls_numbers(c);
-    table::bounds::all_within(HANDED, &numbers)
+    let s = c.steering;
+    match s {
+        Steering::ByRotation(q) => {
+            let numbers = [c.engine, c.brake, q.b.x, q.b.y, q.b.z, q.w];
+            table::bounds::all_within(HANDED, &numbers)
+        }
+        Steering::ByAngle(angle) => {
+            let numbers = [c.engine, c.brake, angle];
+            table::bounds::all_within(HANDED, &numbers)
+        }
+    }
 }
 
 pub fn is_chassis_handed(c: Chassis) -> bool

@@ -4,15 +4,18 @@ use Rattle.table.specs.Layout as table
 use Rattle.grammar.specs.Layout as code
 use Rattle.scenario.specs.Format.{format, widthsOf}
 
--- an add's floats are a wheel's settings, by code 1 those before the roll influence; those of controls are a wheel's controls
+-- an add's floats are a wheel's settings, by code 1 those before the roll influence; those of controls are a wheel's controls as they are handed in, with a rotation or with an angle
 pub settings-tied : code.ADD-ROLLED-FLOATS ≡ table.SETTINGS
 settings-tied = refl
 
 pub unrolled-tied : code.ADD-FLOATS ≡ table.ROLL
 unrolled-tied = refl
 
-pub controls-tied : code.CONTROLS-FLOATS ≡ table.CONTROLS
+pub controls-tied : code.CONTROLS-FLOATS ≡ table.BY-ROTATION
 controls-tied = refl
+
+pub controls-by-angle-tied : code.CONTROLS-BY-ANGLE-FLOATS ≡ table.BY-ANGLE
+controls-by-angle-tied = refl
 
 -- an aim's floats are the kept chassis
 pub chassis-tied : code.AIM-FLOATS ≡ table.KEPT

@@ -10,7 +10,7 @@ use Rattle.wheel.specs.declared.Settings.{Settings}
 use Rattle.wheel.specs.declared.Controls.{Controls}
 use Rattle.wheel.specs.Parts.{rollInfluence, withRoll}
 use Rattle.table.specs.Layout as table
-use Rattle.table.specs.Rows.{settingsAt, controlsAt, chassisOf}
+use Rattle.table.specs.Rows.{settingsAt, byRotationAt, byAngleAt, chassisOf}
 use Rattle.scenario.specs.Layout as at
 
 -- ---- what stands at a place: a number, and the float that is written as its bit pattern
@@ -34,12 +34,15 @@ rolledFrom f l = settingsAt (floatsFrom f l at.FIRST table.SETTINGS) 0
 unfoldable pub settingsFrom : Format → List ℕ → Settings
 settingsFrom f l = withRoll (rolledFrom f l) (rollInfluence f)
 
--- ---- the wheel that controls or a read names, and the controls
+-- ---- the wheel that controls or a read names, and the controls of code 2 and of code 10
 unfoldable pub wheelFrom : List ℕ → ℕ
 wheelFrom l = numberFrom l at.WHEEL
 
 unfoldable pub controlsFrom : Format → List ℕ → Controls
-controlsFrom f l = controlsAt (floatsFrom f l at.CONTROLS table.CONTROLS) 0
+controlsFrom f l = byRotationAt (floatsFrom f l at.CONTROLS table.BY-ROTATION) 0
+
+unfoldable pub controlsByAngleFrom : Format → List ℕ → Controls
+controlsByAngleFrom f l = byAngleAt (floatsFrom f l at.CONTROLS table.BY-ANGLE) 0
 
 -- ---- the chassis of an aim
 unfoldable pub chassisFrom : Format → List ℕ → Chassis

@@ -14,7 +14,7 @@ ghost use Prim.Native.Nat.{_+_, _<_, _≤_};
 ghost use lib.ListN.{length};
 ghost use Rattle.grammar.specs.Layout as code;
 ghost use Rattle.scenario.specs.Format.{format};
-ghost use Rattle.scenario.specs.Decode.{floatFrom, floatsFrom, vectorFrom, rolledFrom, settingsFrom, wheelFrom, controlsFrom, chassisFrom};
+ghost use Rattle.scenario.specs.Decode.{floatFrom, floatsFrom, vectorFrom, rolledFrom, settingsFrom, wheelFrom, controlsFrom, controlsByAngleFrom, chassisFrom};
 
 // The float that stands at a.
 pub fn float_from(words: &[u32], a: usize) -> f32
@@ -79,9 +79,19 @@ pub fn controls_from(words: &[u32]) -> Controls
     requires { ⌜ length (now words) ≡ code.CODE-WORDS ⌝ }
     ensures { λ r. ⌜ r ≡ controlsFrom format (now (words .entry)) ⌝ }
 {
-    let mut numbers = [0.0; layout::CONTROLS];
+    let mut numbers = [0.0; layout::BY_ROTATION];
     floats_from(words, CONTROLS, &mut numbers);
-    parts::controls_at(&numbers, 0)
+    parts::by_rotation_at(&numbers, 0)
+}
+
+// The controls of a code that has an angle in place of the rotation.
+pub fn controls_by_angle_from(words: &[u32]) -> Controls
+    requires { ⌜ length (now words) ≡ code.CODE-WORDS ⌝ }
+    ensures { λ r. ⌜ r ≡ controlsByAngleFrom format (now (words .entry)) ⌝ }
+{
+    let mut numbers = [0.0; layout::BY_ANGLE];
+    floats_from(words, CONTROLS, &mut numbers);
+    parts::by_angle_at(&numbers, 0)
 }
 
 // The chassis of an aim.

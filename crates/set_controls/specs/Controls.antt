@@ -1,4 +1,4 @@
--- Document 01, "What a vehicle keeps". Set controls (engine, brake, steering): an aimed mark becomes new; others stay. Definitions only.
+-- Document 01, "What a vehicle keeps". Set controls (engine, brake, steering): an aimed mark becomes new; others stay. Change request 2026-11: "The row keeps the last control given, angle or rotation." Definitions only.
 use Prim.Native.Nat.{ℕ}
 use mathlib.Core.List.{List, [], _∷_}
 use lib.Dec.{eqb, ltb}
@@ -7,6 +7,7 @@ use Rattle.lists.specs.Pick.{pick}
 use Rattle.lists.specs.Refusal.{_or_, firstFailed}
 use Rattle.wheel.specs.declared.Controls.{Controls}
 use Rattle.wheel.specs.Parts.{withControls}
+use Rattle.wheel.specs.Steering.{keptControls}
 use Rattle.table.specs.Layout as at
 use Rattle.table.specs.Rows.{wheelAt, putWheel}
 use Rattle.table.specs.Bounds.{storedWithin}
@@ -31,4 +32,4 @@ refuseControls f t m i c =
 unfoldable pub setControls : Format → List Float → List ℕ → ℕ → Controls → After ℕ
 setControls f t m i c =
     settled (refuseControls f t m i c) (λ n. n)
-    (after 0 (putWheel t i (withControls (wheelAt t i) c)) (unaimed m)) t m
+    (after 0 (putWheel t i (withControls (wheelAt t i) (keptControls c))) (unaimed m)) t m

@@ -30,12 +30,13 @@ fn refuse_controls(table: &[f32], whole: &[u32], wheel: u32, c: Controls) -> u32
     0
 }
 
-// Sets the engine force, the brake and the steering of one wheel. The steering is a rotation in world space, kept until it is set again.
+// Sets the engine force, the brake and the steering of one wheel, which are kept until they are set again. The steering is a rotation in
+// world space, or an angle, of which each aim makes a rotation about minus the wheel's world direction.
 // An aimed mark becomes new: the vehicle must be aimed again before it is driven.
 // Takes: the table and the whole numbers of a vehicle; the wheel's number; its controls: engine force, brake and steering.
 // Answers 0, or refuses with the first that holds: 1, no vehicle's table; 4, no such wheel; 2, a number handed in that is not finite or
-// above 2^20 in magnitude, or a stored one that is not finite or above 2^40; 10, a brake below 0, or a steering whose sum of squares is not
-// from 1 - 2^-10 to 1 + 2^-10.
+// above 2^20 in magnitude, or a stored one that is not finite or above 2^40; 10, a brake below 0, a rotation whose sum of squares is not
+// from 1 - 2^-10 to 1 + 2^-10, or an angle that is not from -2 to 2.
 pub fn set_controls(table: &mut [f32], whole: &mut [u32], wheel: u32, c: Controls) -> u32
     ensures { λ r. ⌜ after r (now (table .exit)) (now (whole .exit)) ≡ setControls binary32 (now (table .entry)) (now (whole .entry)) wheel c ⌝ }
 {
@@ -43,7 +44,7 @@ pub fn set_controls(table: &mut [f32], whole: &mut [u32], wheel: u32, c: Control
     if number != 0 {
         return number;
     }
-    table::rows::put_controls(table, wheel as usize, c);
+    table::rows::put_controls(table, wheel as usize, wheel::steer::kept_controls(c));
     if whole[MARK] == AIMED {
         whole[MARK] = NEW;
     }

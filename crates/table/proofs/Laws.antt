@@ -10,7 +10,7 @@ use Rattle.lists.proofs.Parts.{length-paste, part-paste, part-after, row-same, 
 use Rattle.body.specs.declared.Chassis.{Chassis}
 use Rattle.wheel.specs.declared.Wheel.{Wheel}
 use Rattle.table.specs.Layout as at
-use Rattle.table.specs.Rows.{vectorAt, rotationAt, inertiaAt, infoAt, placeAt, tuningAt, settingsAt, controlsAt, approachAt, motionAt, fallbacksAt, wheelOf, rowOf, rowStart, wheelAt, putWheel, chassisOf, chassisList, chassisAt, putChassis}
+use Rattle.table.specs.Rows.{vectorAt, rotationAt, inertiaAt, infoAt, placeAt, tuningAt, settingsAt, steeringAt, controlsAt, approachAt, motionAt, fallbacksAt, wheelOf, rowOf, rowStart, wheelAt, putWheel, chassisOf, chassisList, chassisAt, putChassis}
 
 -- ---- lengths
 pub length-row : (w : Wheel) → length (rowOf w) ≡ at.ROW
@@ -38,7 +38,7 @@ length-keep t c s = length-paste t 0 (chassisList c) (rw (length-chassis c) (ome
 
 -- ---- what is put is got
 pub wheel-of-row : (w : Wheel) → wheelOf (rowOf w) ≡ w
-unfolding wheelOf rowOf vectorAt rotationAt infoAt placeAt settingsAt tuningAt controlsAt approachAt motionAt fallbacksAt
+unfolding wheelOf rowOf vectorAt rotationAt infoAt placeAt settingsAt tuningAt steeringAt controlsAt approachAt motionAt fallbacksAt
 wheel-of-row w = refl
 
 pub chassis-of-list : (c : Chassis) → chassisOf (chassisList c) ≡ c

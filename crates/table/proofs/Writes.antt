@@ -14,13 +14,13 @@ use Rattle.tyre.specs.declared.Friction.{Friction}
 use Rattle.wheel.specs.declared.RayCastInfo.{RayCastInfo}
 use Rattle.wheel.specs.declared.Place.{Place}
 use Rattle.wheel.specs.declared.Settings.{Settings}
-use Rattle.wheel.specs.declared.Controls.{Controls}
+use Rattle.wheel.specs.declared.KeptControls.{KeptControls}
 use Rattle.wheel.specs.declared.Motion.{Motion}
 use Rattle.wheel.specs.declared.Fallbacks.{Fallbacks}
 use Rattle.wheel.specs.declared.Wheel.{Wheel}
 use Rattle.wheel.specs.Parts.{withInfo, withPlace, withSettings, withControls, withApproach, withMotion, withFallbacks, withForce, withFriction, withRotation}
 use Rattle.table.specs.Layout as at
-use Rattle.table.specs.Rows.{vectorAt, rotationAt, infoAt, infoList, placeAt, placeList, tuningAt, settingsAt, settingsList, controlsAt, controlsList, approachAt, approachList, motionAt, motionList, fallbacksAt, fallbacksList, wheelOf, rowOf, rowStart, wheelAt, putWheel}
+use Rattle.table.specs.Rows.{vectorAt, rotationAt, infoAt, infoList, placeAt, placeList, tuningAt, settingsAt, settingsList, steeringAt, controlsAt, controlsList, approachAt, approachList, motionAt, motionList, fallbacksAt, fallbacksList, wheelOf, rowOf, rowStart, wheelAt, putWheel}
 use Rattle.table.proofs.Laws.{length-row, wheel-of-row}
 
 -- ---- a list is the list of its elements
@@ -64,7 +64,7 @@ pub record AllWrites : Type 0 where
   pub info : (i : RayCastInfo) → WritesPart at.INFO-AT at.PLACE-AT (infoList i) (λ w. withInfo w i)
   pub place : (p : Place) → WritesPart at.PLACE-AT at.SETTINGS-AT (placeList p) (λ w. withPlace w p)
   pub settings : (s : Settings) → WritesPart at.SETTINGS-AT at.CONTROLS-AT (settingsList s) (λ w. withSettings w s)
-  pub controls : (c : Controls) → WritesPart at.CONTROLS-AT at.APPROACH-AT (controlsList c) (λ w. withControls w c)
+  pub controls : (c : KeptControls) → WritesPart at.CONTROLS-AT at.APPROACH-AT (controlsList c) (λ w. withControls w c)
   pub approach : (a : Approach) → WritesPart at.APPROACH-AT at.MOTION-AT (approachList a) (λ w. withApproach w a)
   pub motion : (m : Motion) → WritesPart at.MOTION-AT at.FALLBACKS-AT (motionList m) (λ w. withMotion w m)
   pub fallbacks : (b : Fallbacks) → WritesPart at.FALLBACKS-AT at.ROW (fallbacksList b) (λ w. withFallbacks w b)
@@ -73,7 +73,7 @@ pub record AllWrites : Type 0 where
   pub rotation : (x y : Float) → Writes (λ r. set (set r (at.MOTION-AT + at.ROTATION) x) (at.MOTION-AT + at.SPIN) y) (λ w. withRotation w x y)
 
 pub writes : AllWrites
-unfolding listed rowOf wheelOf vectorAt rotationAt infoAt placeAt settingsAt tuningAt controlsAt approachAt motionAt fallbacksAt
+unfolding listed rowOf wheelOf vectorAt rotationAt infoAt placeAt settingsAt tuningAt steeringAt controlsAt approachAt motionAt fallbacksAt
 writes = record {
   info = λ i. record { whole = record { spelled = λ g. refl } };
   place = λ p. record { whole = record { spelled = λ g. refl } };

@@ -1,6 +1,6 @@
 -- Document 01, "What a vehicle keeps": the layout of the lent table. Each place is a named constant, counted from the one before it, and nothing else knows a number. Definitions only.
--- The kept chassis stands first, then the rows. A row holds the numbers of `Wheel` and `RayCastInfo`, part by part, steering as a rotation; contact and ground object are not
--- kept. The places in a part are counted from its start, and its length is the last of them: settings and controls are handed in as lists in the same order (docs/STREAM.md).
+-- The kept chassis stands first, then the rows. A row holds the numbers of `Wheel` and `RayCastInfo`, part by part; contact and ground object are not
+-- kept. The places in a part are counted from its start, and its length is the last of them: settings are handed in as a list in the same order, and controls with one steering alone (docs/STREAM.md).
 use Prim.Native.Nat.{ℕ, _+_, _*_}
 
 -- ---- the kept chassis, at the start of the table
@@ -110,6 +110,19 @@ ROLL = TUNING-AT + TUNING
 abbrev pub SETTINGS : ℕ
 SETTINGS = ROLL + 1
 
+-- ---- the steering of a wheel, as it is kept: the rotation, the angle, and which of the two was given
+abbrev pub STEERING-ROTATION : ℕ
+STEERING-ROTATION = 0
+
+abbrev pub STEERING-ANGLE : ℕ
+STEERING-ANGLE = STEERING-ROTATION + 4
+
+abbrev pub STEERING-KIND : ℕ
+STEERING-KIND = STEERING-ANGLE + 1
+
+abbrev pub STEERING : ℕ
+STEERING = STEERING-KIND + 1
+
 -- ---- the controls of a wheel
 abbrev pub ENGINE : ℕ
 ENGINE = 0
@@ -117,11 +130,18 @@ ENGINE = 0
 abbrev pub BRAKE : ℕ
 BRAKE = ENGINE + 1
 
-abbrev pub STEERING : ℕ
-STEERING = BRAKE + 1
+abbrev pub STEERING-AT : ℕ
+STEERING-AT = BRAKE + 1
 
 abbrev pub CONTROLS : ℕ
-CONTROLS = STEERING + 4
+CONTROLS = STEERING-AT + STEERING
+
+-- ---- how many numbers the controls are as they are handed in: engine, brake, and the rotation or the angle
+abbrev pub BY-ROTATION : ℕ
+BY-ROTATION = STEERING-AT + 4
+
+abbrev pub BY-ANGLE : ℕ
+BY-ANGLE = STEERING-AT + 1
 
 -- ---- how the ray of a wheel met the ground
 abbrev pub VELOCITY : ℕ

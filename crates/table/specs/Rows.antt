@@ -12,7 +12,11 @@ use Rattle.body.specs.declared.Chassis.{Chassis}
 use Rattle.tyre.specs.declared.WheelTuning.{WheelTuning}
 use Rattle.tyre.specs.declared.Approach.{Approach}
 use Rattle.wheel.specs.declared.Settings.{Settings}
+use Rattle.wheel.specs.declared.Steering.{Steering}
+use Rattle.wheel.specs.declared.Steering.the-variants.{ByRotation, ByAngle}
 use Rattle.wheel.specs.declared.Controls.{Controls}
+use Rattle.wheel.specs.declared.KeptSteering.{KeptSteering}
+use Rattle.wheel.specs.declared.KeptControls.{KeptControls}
 use Rattle.wheel.specs.declared.RayCastInfo.{RayCastInfo}
 use Rattle.wheel.specs.declared.Place.{Place}
 use Rattle.wheel.specs.declared.Motion.{Motion}
@@ -84,11 +88,31 @@ settingsAt l a = record {
 abbrev pub settingsList : Settings → List Float
 settingsList s = vectorList (s .connection) ++ vectorList (s .direction) ++ vectorList (s .axle) ++ (s .rest ∷ s .radius ∷ tuningList (s .tuning)) ++ (s .roll ∷ [])
 
-unfoldable pub controlsAt : List Float → ℕ → Controls
-controlsAt l a = record { engine = numberAt l (a + at.ENGINE); brake = numberAt l (a + at.BRAKE); steering = rotationAt l (a + at.STEERING) }
+unfoldable pub steeringAt : List Float → ℕ → KeptSteering
+steeringAt l a = record { rotation = rotationAt l (a + at.STEERING-ROTATION); angle = numberAt l (a + at.STEERING-ANGLE); kind = numberAt l (a + at.STEERING-KIND) }
 
-abbrev pub controlsList : Controls → List Float
-controlsList c = c .engine ∷ c .brake ∷ rotationList (c .steering)
+abbrev pub steeringList : KeptSteering → List Float
+steeringList k = rotationList (k .rotation) ++ (k .angle ∷ k .kind ∷ [])
+
+unfoldable pub controlsAt : List Float → ℕ → KeptControls
+controlsAt l a = record { engine = numberAt l (a + at.ENGINE); brake = numberAt l (a + at.BRAKE); steering = steeringAt l (a + at.STEERING-AT) }
+
+abbrev pub controlsList : KeptControls → List Float
+controlsList c = c .engine ∷ c .brake ∷ steeringList (c .steering)
+
+-- ---- controls as they are handed in, with a rotation or with an angle, and their numbers in that order
+unfoldable pub byRotationAt : List Float → ℕ → Controls
+byRotationAt l a = record { engine = numberAt l (a + at.ENGINE); brake = numberAt l (a + at.BRAKE); steering = ByRotation (rotationAt l (a + at.STEERING-AT)) }
+
+unfoldable pub byAngleAt : List Float → ℕ → Controls
+byAngleAt l a = record { engine = numberAt l (a + at.ENGINE); brake = numberAt l (a + at.BRAKE); steering = ByAngle (numberAt l (a + at.STEERING-AT)) }
+
+abbrev pub handedSteering : Steering → List Float
+handedSteering (ByRotation q) = rotationList q
+handedSteering (ByAngle angle) = angle ∷ []
+
+abbrev pub handedControls : Controls → List Float
+handedControls c = c .engine ∷ c .brake ∷ handedSteering (c .steering)
 
 unfoldable pub approachAt : List Float → ℕ → Approach
 approachAt l a = record { velocity = numberAt l (a + at.VELOCITY); inverse = numberAt l (a + at.INVERSE) }

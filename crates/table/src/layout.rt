@@ -72,14 +72,28 @@ pub const ROLL: usize = TUNING_AT + TUNING;
 
 pub const SETTINGS: usize = ROLL + 1;
 
+// The steering of a wheel, as it is kept: the rotation, the angle, and which of the two was given.
+pub const STEERING_ROTATION: usize = 0;
+
+pub const STEERING_ANGLE: usize = STEERING_ROTATION + 4;
+
+pub const STEERING_KIND: usize = STEERING_ANGLE + 1;
+
+pub const STEERING: usize = STEERING_KIND + 1;
+
 // The controls of a wheel.
 pub const ENGINE: usize = 0;
 
 pub const BRAKE: usize = ENGINE + 1;
 
-pub const STEERING: usize = BRAKE + 1;
+pub const STEERING_AT: usize = BRAKE + 1;
 
-pub const CONTROLS: usize = STEERING + 4;
+pub const CONTROLS: usize = STEERING_AT + STEERING;
+
+// How many numbers the controls are as they are handed in: engine, brake, and the rotation or the angle.
+pub const BY_ROTATION: usize = STEERING_AT + 4;
+
+pub const BY_ANGLE: usize = STEERING_AT + 1;
 
 // How the ray of a wheel met the ground.
 pub const VELOCITY: usize = 0;

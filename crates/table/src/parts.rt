@@ -9,17 +9,20 @@ use vector::Rotation;
 use vector::Vector;
 use wheel::Controls;
 use wheel::Fallbacks;
+use wheel::KeptControls;
+use wheel::KeptSteering;
 use wheel::Motion;
 use wheel::Place;
 use wheel::RayCastInfo;
 use wheel::Settings;
+use wheel::Steering;
 use wheel::Wheel;
 ghost use mathlib.Core.Path.{_≡_};
 ghost use Prim.Native.Nat.{_+_, _<_, _≤_};
 ghost use lib.ListN.{length};
 ghost use Rattle.wheel.specs.Parts.{withInfo, withPlace, withSettings, withControls, withApproach, withMotion, withFallbacks, withForce, withFriction, withRotation, frictionIn};
 ghost use Rattle.table.specs.Layout as at;
-ghost use Rattle.table.specs.Rows.{vectorAt, rotationAt, inertiaAt, infoAt, infoList, placeAt, placeList, tuningAt, settingsAt, settingsList, controlsAt, controlsList, approachAt, approachList, motionAt, motionList, fallbacksAt, fallbacksList, wheelOf, rowOf};
+ghost use Rattle.table.specs.Rows.{vectorAt, rotationAt, inertiaAt, infoAt, infoList, placeAt, placeList, tuningAt, settingsAt, settingsList, steeringAt, steeringList, controlsAt, controlsList, byRotationAt, byAngleAt, approachAt, approachList, motionAt, motionList, fallbacksAt, fallbacksList, wheelOf, rowOf};
 
 pub fn vector_at(l: &[f32], a: usize) -> Vector
     requires { ⌜ a + 2 < length (now l) ⌝ }
@@ -108,14 +111,50 @@ pub fn settings_at(l: &[f32], a: usize) -> Settings
     }
 }
 
-pub fn controls_at(l: &[f32], a: usize) -> Controls
+fn steering_at(l: &[f32], a: usize) -> KeptSteering
+    requires { ⌜ a + at.STEERING ≤ length (now l) ⌝ }
+    ensures { λ r. ⌜ r ≡ steeringAt (now (l .entry)) a ⌝ }
+{
+    KeptSteering {
+        rotation: rotation_at(l, a + STEERING_ROTATION),
+        angle: l[a + STEERING_ANGLE],
+        kind: l[a + STEERING_KIND],
+    }
+}
+
+fn controls_at(l: &[f32], a: usize) -> KeptControls
     requires { ⌜ a + at.CONTROLS ≤ length (now l) ⌝ }
     ensures { λ r. ⌜ r ≡ controlsAt (now (l .entry)) a ⌝ }
 {
+    KeptControls {
+        engine: l[a + ENGINE],
+        brake: l[a + BRAKE],
+        steering: steering_at(l, a + STEERING_AT),
+    }
+}
+
+// ---- controls as they are handed in, with a rotation or with an angle
+pub fn by_rotation_at(l: &[f32], a: usize) -> Controls
+    requires { ⌜ a + at.BY-ROTATION ≤ length (now l) ⌝ }
+    ensures { λ r. ⌜ r ≡ byRotationAt (now (l .entry)) a ⌝ }
+{
+    let q = rotation_at(l, a + STEERING_AT);
     Controls {
         engine: l[a + ENGINE],
         brake: l[a + BRAKE],
-        steering: rotation_at(l, a + STEERING),
+        steering: Steering::ByRotation(q),
+    }
+}
+
+pub fn by_angle_at(l: &[f32], a: usize) -> Controls
+    requires { ⌜ a + at.BY-ANGLE ≤ length (now l) ⌝ }
+    ensures { λ r. ⌜ r ≡ byAngleAt (now (l .entry)) a ⌝ }
+{
+    let angle = l[a + STEERING_AT];
+    Controls {
+        engine: l[a + ENGINE],
+        brake: l[a + BRAKE],
+        steering: Steering::ByAngle(angle),
     }
 }
 
@@ -242,11 +281,12 @@ pub fn settings_numbers(s: Settings) -> [f32; SETTINGS]
     ]
 }
 
-pub fn controls_numbers(c: Controls) -> [f32; CONTROLS]
+fn controls_numbers(c: KeptControls) -> [f32; CONTROLS]
     ensures { λ r. ⌜ r ≡ controlsList c ⌝ }
 {
-    let q = c.steering;
-    [c.engine, c.brake, q.b.x, q.b.y, q.b.z, q.w]
+    let k = c.steering;
+    let q = k.rotation;
+    [c.engine, c.brake, q.b.x, q.b.y, q.b.z, q.w, k.angle, k.kind]
 }
 
 fn approach_numbers(a: Approach) -> [f32; APPROACH]
@@ -292,7 +332,7 @@ fn write_settings(row: &mut [f32], s: Settings)
     copy(&mut row[SETTINGS_AT..CONTROLS_AT], &numbers);
 }
 
-pub fn write_controls(row: &mut [f32], c: Controls)
+pub fn write_controls(row: &mut [f32], c: KeptControls)
     requires { ⌜ length (now row) ≡ at.ROW ⌝ }
     ensures { λ _. ⌜ now (row .exit) ≡ rowOf (withControls (wheelOf (now (row .entry))) c) ⌝ }
 {

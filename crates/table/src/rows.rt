@@ -6,8 +6,8 @@ use body::Chassis;
 use tyre::Approach;
 use tyre::Friction;
 use vector::Pose;
-use wheel::Controls;
 use wheel::Fallbacks;
+use wheel::KeptControls;
 use wheel::RayCastInfo;
 use wheel::Wheel;
 ghost use mathlib.Core.Path.{_≡_};
@@ -82,7 +82,7 @@ pub fn put_wheel(table: &mut [f32], i: usize, w: Wheel)
 }
 
 // The table with other controls of wheel i.
-pub fn put_controls(table: &mut [f32], i: usize, c: Controls)
+pub fn put_controls(table: &mut [f32], i: usize, c: KeptControls)
     requires { ⌜ (length (now table) ≡ at.SIZE) × (i < at.WHEELS) ⌝ }
     ensures { λ _. ⌜ now (table .exit) ≡ putWheel (now (table .entry)) i (withControls (wheelAt (now (table .entry)) i) c) ⌝ }
 {

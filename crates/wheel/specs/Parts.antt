@@ -5,7 +5,7 @@ use Rattle.vector.specs.declared.Vector.{Vector}
 use Rattle.tyre.specs.declared.Approach.{Approach}
 use Rattle.tyre.specs.declared.Friction.{Friction}
 use Rattle.wheel.specs.declared.Settings.{Settings}
-use Rattle.wheel.specs.declared.Controls.{Controls}
+use Rattle.wheel.specs.declared.KeptControls.{KeptControls}
 use Rattle.wheel.specs.declared.RayCastInfo.{RayCastInfo}
 use Rattle.wheel.specs.declared.Place.{Place}
 use Rattle.wheel.specs.declared.Motion.{Motion}
@@ -22,7 +22,7 @@ withPlace w place = record { info = w .info; place = place; settings = w .settin
 abbrev pub withSettings : Wheel → Settings → Wheel
 withSettings w settings = record { info = w .info; place = w .place; settings = settings; controls = w .controls; approach = w .approach; motion = w .motion; fallbacks = w .fallbacks }
 
-abbrev pub withControls : Wheel → Controls → Wheel
+abbrev pub withControls : Wheel → KeptControls → Wheel
 withControls w controls = record { info = w .info; place = w .place; settings = w .settings; controls = controls; approach = w .approach; motion = w .motion; fallbacks = w .fallbacks }
 
 abbrev pub withApproach : Wheel → Approach → Wheel

@@ -16,6 +16,7 @@ use Rattle.wheel.specs.declared.Wheel.{Wheel}
 use Rattle.wheel.specs.declared.RayAnswer.{RayAnswer}
 use Rattle.wheel.specs.declared.RayAnswer.the-variants.{Nothing, Hit, HitUp}
 use Rattle.wheel.specs.Parts.{withInfo, withPlace, withApproach, withHard}
+use Rattle.wheel.specs.Steering.{steeringOf, steeringRotation}
 
 -- Rule 1. Centre = hard point + direction × the suspension length stored so far.
 unfoldable pub centreOf : Format → Vector → Vector → Float → Vector
@@ -25,7 +26,7 @@ centreOf f hard direction length = addV f hard (scaleV f direction length)
 unfoldable pub settledCentre : Format → Wheel → Vector
 settledCentre f w = centreOf f (w .info .hard) (w .place .direction) (w .info .length)
 
--- Rule 1. Hard point = pose of the connection point; direction rotated by the chassis; axle rotated by the chassis and then by steering.
+-- Rule 1. Hard point = pose of the connection point; direction rotated by the chassis; axle rotated by the chassis and then by steering. Change request 2026-11: that of an angle turns about this direction.
 unfoldable pub updateWheelTransform : Format → Pose → Wheel → Wheel
 updateWheelTransform f pose w =
     let hard = transformPoint f pose (w .settings .connection) in
@@ -33,7 +34,7 @@ updateWheelTransform f pose w =
     withPlace (withHard w hard) (record {
       centre = centreOf f hard direction (w .info .length);
       direction = direction;
-      axle = rotateV f (w .controls .steering) (rotateV f (pose .rotation) (w .settings .axle));
+      axle = rotateV f (steeringRotation f direction (steeringOf (w .controls .steering))) (rotateV f (pose .rotation) (w .settings .axle));
     })
 
 -- Rule 3. Ray = direction × (rest + radius).

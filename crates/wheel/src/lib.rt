@@ -8,6 +8,7 @@ use vector::Rotation;
 use vector::Vector;
 
 pub mod ray; // rules 1 and 3 to 5: where the wheel is, and what its ray met
+pub mod steer; // change request 2026-11: a steering as it is kept, and the rotation that it makes
 
 // What was handed in when the wheel was added, in the order of docs/STREAM.md. `roll` is the source's roll_influence.
 pub struct Settings {
@@ -23,11 +24,32 @@ pub struct Settings {
 // The roll influence that the source gives every wheel.
 pub const ROLL_INFLUENCE: f32 = 0.1;
 
-// What is set before a frame. The steering is a rotation in world space.
+// How a wheel is steered: by a rotation in world space, or by an angle from -2 to 2, in radians, about minus its world direction (change
+// request 2026-11).
+pub enum Steering {
+    ByRotation(Rotation),
+    ByAngle(f32),
+}
+
+// What is set before a frame.
 pub struct Controls {
     pub engine: f32,
     pub brake: f32,
-    pub steering: Rotation,
+    pub steering: Steering,
+}
+
+// A steering as the row keeps it: a kind of 0 says that the rotation was given last, any other number that the angle was.
+pub struct KeptSteering {
+    pub rotation: Rotation,
+    pub angle: f32,
+    pub kind: f32,
+}
+
+// The controls as the row keeps them.
+pub struct KeptControls {
+    pub engine: f32,
+    pub brake: f32,
+    pub steering: KeptSteering,
 }
 
 // The source's `RayCastInfo`, less contact and ground object, which are not kept.
@@ -66,7 +88,7 @@ pub struct Wheel {
     pub info: RayCastInfo,
     pub place: Place,
     pub settings: Settings,
-    pub controls: Controls,
+    pub controls: KeptControls,
     pub approach: Approach,
     pub motion: Motion,
     pub fallbacks: Fallbacks,

@@ -3,6 +3,7 @@ use super::Place;
 use super::RayAnswer;
 use super::RayCastInfo;
 use super::Wheel;
+use super::steer;
 use body::Body;
 use tyre::Approach;
 use tyre::WheelTuning;
@@ -37,7 +38,8 @@ pub fn update_wheel_transform(pose: Pose, w: Wheel) -> Wheel
     let mut info = w.info;
     info.hard = vector::transform_point(pose, s.connection);
     let direction = vector::rotate(q, s.direction);
-    let axle = vector::rotate(c.steering, vector::rotate(q, s.axle));
+    let steered = steer::steering_rotation(direction, steer::steering_of(c.steering));
+    let axle = vector::rotate(steered, vector::rotate(q, s.axle));
     let centre = centre_of(info.hard, direction, info.length);
     let place = Place {
         centre,

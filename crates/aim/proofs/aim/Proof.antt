@@ -1,4 +1,4 @@
--- `aim::aim` meets its contract: refused, worked out on a copy that cannot be stored, or kept. Assumes nothing.
+-- `aim::aim` meets its contract: refused, worked out on a copy whose steering makes no rotation or that cannot be stored, or kept. Assumes nothing.
 use borrow.Author.Needs.{needs}
 use Prim.Native.Nat.{ℕ}
 use mathlib.Core.List.{List}
@@ -8,10 +8,12 @@ use lib.Ieee.{Float, binary32}
 use Rattle.lists.specs.Refusal.{firstFailed}
 use Rattle.body.specs.declared.Chassis.{Chassis}
 use Rattle.refusals.specs.Shape.{countOf}
+use Rattle.refusals.specs.Steered.{allSteeredOk}
+use Rattle.refusals.specs.WheelTests.{wheelHolds}
 use Rattle.refusals.proofs.Says.{Shape}
 use Rattle.aim.specs.Aim.{aimedTable, chassisTests, aimedBy}
 use Rattle.aim.proofs.Accepted.{chassis-tests-say}
-use Rattle.aim.proofs.Aims.{aim-refused, aim-not-stored, aim-done}
+use Rattle.aim.proofs.Aims.{aim-refused, aim-not-steered, aim-not-stored, aim-done}
 use Rattle.aim.proofs.aim.Statement.{statement}
 use Rattle.aim.proofs.aim.Tie as tie
 
@@ -70,40 +72,63 @@ aimed-table-requires c κs =
     let at-work = c .before .before .before .before in
     let s = shape (at-work .before .before .before) in search needs
 
-stored-within-requires : tie.Need-stored-within-requires
-stored-within-requires c κs = let s = shape (started (c .before .before)) in search needs
+-- ---- from the test of the steering, and from that of what is to be stored, back to the work
+abbrev worked : tie.After-holds-of-wheels → tie.After-aimed-table
+worked c = c .before .before .before
+
+abbrev steered : tie.After-stored-within → tie.After-holds-of-wheels
+steered c = c .before .before .before
+
+holds-of-wheels-requires : tie.Need-holds-of-wheels-requires
+holds-of-wheels-requires c κs = let s = shape (started (c .before .before)) in search needs
+
+steering-tested : (c : tie.After-holds-of-wheels) → c .holds-of-wheels .result ≡ allSteeredOk binary32 (worked c .aimed-table .last .0) (countOf (whole (started (worked c))))
+unfolding allSteeredOk wheelHolds
+steering-tested c = c .holds-of-wheels .ensures
 
 returns-2 : tie.Need-returns-2
 returns-2 c =
     let test = c .before .before in
-    let work = test .before .before .before in
-    aim-not-stored _ _ _ _ _ _ (passed (started work)) (placed work) (test .stored-within .ensures) _ (c .before .if2 .taken) (c .not-aimed2 .ensures)
+    let work = worked test in
+    aim-not-steered _ _ _ _ _ _ (passed (started work)) (placed work) (steering-tested test) _ (c .before .if2 .taken) (c .not-aimed2 .ensures)
+
+stored-within-requires : tie.Need-stored-within-requires
+stored-within-requires c κs = let s = shape (started (worked (c .before .before))) in search needs
+
+returns-3 : tie.Need-returns-3
+returns-3 c =
+    let test = c .before .before in
+    let before = steered test in
+    let work = worked before in
+    aim-not-stored _ _ _ _ _ _ (passed (started work)) (placed work) (steering-tested before) _ (test .before .before .if2 .left) (test .stored-within .ensures) _ (c .before .if3 .taken)
+    (c .not-aimed3 .ensures)
 
 copy-requires-2 : tie.Need-copy-requires-2
 copy-requires-2 c κs =
-    let at-work5 = c .before .before .before .before in
-    let s = shape (started (at-work5 .before .before)) in search needs
+    let test = c .before .before .before in
+    let s = shape (started (worked (steered test))) in search needs
 
 slice-write-whole : tie.Need-slice-write-whole
 slice-write-whole c =
-    let at-work6 = c .before .before .before in
-    let at-work5 = at-work6 .before .before .before .before in
-    let s = shape (started (at-work5 .before .before)) in omega arith
+    let kept = c .before .before in
+    let test = kept .before .before .before .before in
+    let s = shape (started (worked (steered test))) in omega arith
 
 sights-of-requires : tie.Need-sights-of-requires
 sights-of-requires c κs =
-    let at-copy2 = c .before .before .before .before in
-    let at-stored-within = at-copy2 .before .before .before .before in
-    let s = shape (started (at-stored-within .before .before .before)) in search needs
+    let kept = c .before .before .before .before in
+    let test = kept .before .before .before .before in
+    let s = shape (started (worked (steered test))) in search needs
 
-returns-3 : tie.Need-returns-3
+returns-4 : tie.Need-returns-4
 unfolding aimedBy
-returns-3 c =
+returns-4 c =
     let speed = c .before .before in
     let kept = speed .before .before .before in
     let test = kept .before .before .before .before in
-    let work = test .before .before .before in
-    aim-done _ _ _ _ _ _ (passed (started work)) (placed work) (test .stored-within .ensures) _ _ (kept .before .before .before .if2 .left)
+    let before = steered test in
+    let work = worked before in
+    aim-done _ _ _ _ _ _ (passed (started work)) (placed work) (steering-tested before) _ (test .before .before .if2 .left) (test .stored-within .ensures) _ _ (kept .before .before .before .if3 .left)
     (rw (← speed .speed-of .ensures, ← c .sights-of .ensures)) (kept .copy2 .ensures)
 
 pub aim-spec : {M : Type 1} → statement M
@@ -123,11 +148,17 @@ aim-spec =
     (λ c. search needs)
     aimed-table-requires
     (λ c. search needs)
-    stored-within-requires
+    holds-of-wheels-requires
     (λ c κs. tt)
     (λ c. search needs)
     (λ c. search needs)
     returns-2
+    (λ c. search needs)
+    stored-within-requires
+    (λ c κs. tt)
+    (λ c. search needs)
+    (λ c. search needs)
+    returns-3
     (λ c. search needs)
     copy-requires-2
     slice-write-whole
@@ -136,4 +167,4 @@ aim-spec =
     sights-of-requires
     (λ c. search needs)
     (λ c. search needs)
-    returns-3)
+    returns-4)

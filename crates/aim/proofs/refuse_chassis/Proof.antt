@@ -3,6 +3,8 @@ use native.Mathlib.Omega.{arith}
 use Rattle.lists.specs.Refusal.{firstFailed}
 use Rattle.lists.proofs.Picks.{picks, told-yes}
 use Rattle.refusals.proofs.Says.{Shape, shape-says}
+use Rattle.ranges.specs.Ranges.{storedInRange}
+use Rattle.refusals.specs.WheelTests.{wheelHolds}
 use Rattle.aim.specs.Aim.{chassisTests}
 use Rattle.aim.proofs.refuse_chassis.Statement.{statement}
 use Rattle.aim.proofs.refuse_chassis.Tie as tie
@@ -36,17 +38,17 @@ returns-4 : tie.Need-returns-4
 unfolding chassisTests firstFailed
 returns-4 c = search picks depth 40 fits 4000
 
-is-stored-in-range-requires : tie.Need-is-stored-in-range-requires
-is-stored-in-range-requires c κs =
+holds-of-wheels-requires : tie.Need-holds-of-wheels-requires
+holds-of-wheels-requires c κs =
     let at-if2 = c .before .before .before .before in
     let s = shape (at-if2 .before .before .before) in (s .sized, s .room)
 
 returns-5 : tie.Need-returns-5
-unfolding chassisTests firstFailed
+unfolding chassisTests firstFailed storedInRange wheelHolds
 returns-5 c = search picks depth 40 fits 4000
 
 returns-6 : tie.Need-returns-6
-unfolding chassisTests firstFailed
+unfolding chassisTests firstFailed storedInRange wheelHolds
 returns-6 c = search picks depth 40 fits 4000
 
 pub refuse-chassis-spec : {M : Type 1} → statement M
@@ -63,6 +65,6 @@ refuse-chassis-spec =
     returns-3
     (λ c κs. tt)
     returns-4
-    is-stored-in-range-requires
+    holds-of-wheels-requires
     returns-5
     returns-6)

@@ -1,6 +1,8 @@
 -- `early::refuse_ranges` meets its contract: each return gives the choice that the definition makes there. Assumes nothing.
 use Rattle.lists.specs.Refusal.{firstFailed}
 use Rattle.lists.proofs.Picks.{picks}
+use Rattle.ranges.specs.Ranges.{storedInRange}
+use Rattle.refusals.specs.WheelTests.{wheelHolds}
 use Rattle.early.specs.Early.{rangeTests}
 use Rattle.early.proofs.refuse_ranges.Statement.{statement}
 use Rattle.early.proofs.refuse_ranges.Tie as tie
@@ -14,15 +16,15 @@ unfolding rangeTests firstFailed
 returns-2 c = search picks depth 40 fits 4000
 
 returns-3 : tie.Need-returns-3
-unfolding rangeTests firstFailed
+unfolding rangeTests firstFailed storedInRange wheelHolds
 returns-3 c = search picks depth 40 fits 4000
 
 returns-4 : tie.Need-returns-4
-unfolding rangeTests firstFailed
+unfolding rangeTests firstFailed storedInRange wheelHolds
 returns-4 c = rw (← c .before .before .get-chassis .ensures) (search picks depth 40 fits 4000)
 
 returns-5 : tie.Need-returns-5
-unfolding rangeTests firstFailed
+unfolding rangeTests firstFailed storedInRange wheelHolds
 returns-5 c = rw (← c .before .before .get-chassis .ensures) (search picks depth 40 fits 4000)
 
 pub refuse-ranges-spec : {M : Type 1} → statement M

@@ -15,7 +15,7 @@ returns-2 c =
     let call = c .before .before .before .before in
     let controls = call .before .before .before in
     settled-of-length _ _ _ _ _ _ _ _ (controls .before .if1 .left)
-    (settled-of-call _ _ _ _ _ (rw (← controls .controls-at .ensures) (call .set-controls .ensures)))
+    (settled-of-call _ _ _ _ _ (rw (← controls .by-rotation-at .ensures) (call .set-controls .ensures)))
 
 pub vehicle-set-controls-spec : {M : Type 1} → statement M
 vehicle-set-controls-spec = tie.close (tie.spec returns (λ c κs. search needs) (λ c κs. tt) (λ c. search needs) (λ c. search needs) returns-2)

@@ -5,7 +5,7 @@ use Rattle.set_controls.specs.Controls.{setControls}
 use Rattle.grammar.specs.declared.Asked.{Asked}
 use Rattle.grammar.specs.Grammar.{asked}
 use Rattle.scenario.specs.Format.{format}
-use Rattle.scenario.specs.Decode.{numberFrom, wheelFrom, controlsFrom}
+use Rattle.scenario.specs.Decode.{numberFrom, wheelFrom}
 use Rattle.replies.specs.Replies.{resultsOf}
 use Rattle.perform.specs.Call.{callFor, callOf}
 use Rattle.perform.proofs.Told.{told-number, told-none}
@@ -47,10 +47,11 @@ returns-3 : tie.Need-returns-3
 unfolding callOf callFor
 returns-3 c =
     let call = c .before .before .before .before in
-    let arm = call .before .before .before in
+    let controls = call .before .before .before in
+    let arm = controls .before in
     let a = start (arm .before .before) .args in
-    rw (asks (arm .before .before) _ (arm .enum-told3 .given .1))
-    (told-number _ _ _ (setControls format (a .table .now) (a .whole .now) (wheelFrom (a .words .now)) (controlsFrom format (a .words .now))) _ (call .call-controls .ensures))
+    rw (asks (arm .before .before) _ (arm .enum-told3 .given .1), ← controls .controls-from .ensures)
+    (told-number _ _ _ (setControls format (a .table .now) (a .whole .now) (wheelFrom (a .words .now)) _) _ (call .call-controls .ensures))
 
 returns-4 : tie.Need-returns-4
 unfolding callOf callFor
@@ -100,8 +101,18 @@ returns-9 c =
 returns-10 : tie.Need-returns-10
 unfolding callOf callFor
 returns-10 c =
+    let call = c .before .before .before .before in
+    let controls = call .before .before .before in
+    let arm = controls .before in
+    let a = start (arm .before .before) .args in
+    rw (asks (arm .before .before) _ (arm .enum-told10 .given .1), ← controls .controls-by-angle-from .ensures)
+    (told-number _ _ _ (setControls format (a .table .now) (a .whole .now) (wheelFrom (a .words .now)) _) _ (call .call-controls2 .ensures))
+
+returns-11 : tie.Need-returns-11
+unfolding callOf callFor
+returns-11 c =
     let arm = c .before in
-    rw (asks (arm .before .before) _ (arm .enum-told10 .given .1)) (told-none _ _ _ _ (c .no-call2 .ensures))
+    rw (asks (arm .before .before) _ (arm .enum-told11 .given .1)) (told-none _ _ _ _ (c .no-call2 .ensures))
 
 pub perform-spec : {M : Type 1} → statement M
 perform-spec =
@@ -116,6 +127,7 @@ perform-spec =
     (λ c κs. tt)
     (λ c. search needs)
     (λ c κs. search needs)
+    (λ c κs. search needs)
     (λ c. search needs)
     (λ c κs. search needs)
     (λ c. search needs)
@@ -128,6 +140,9 @@ perform-spec =
     (λ c. search needs)
     (λ c κs. search needs)
     (λ c. search needs)
+    (λ c κs. search needs)
+    (λ c. search needs)
+    (λ c κs. search needs)
     (λ c κs. search needs)
     (λ c. search needs)
     (λ c κs. tt)
@@ -161,4 +176,7 @@ perform-spec =
     (λ c. search needs)
     (λ c. search needs)
     returns-9
-    returns-10)
+    (λ c. search needs)
+    (λ c. search needs)
+    returns-10
+    returns-11)

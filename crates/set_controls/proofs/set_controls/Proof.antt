@@ -19,19 +19,19 @@ unfolding setControls
 returns c = settled-refused _ _ _ _ _ _ _ (c .before .refuse-controls .ensures) (c .if1 .taken) refl
 
 put-controls-requires : tie.Need-put-controls-requires
-put-controls-requires c κs = let r = tested (c .before) in omega arith
+put-controls-requires c κs = let r = tested (c .before .before) in omega arith
 
 slice-read-if2 : tie.Need-slice-read-if2
 slice-read-if2 c =
     let after-if1 = c .before .before .before .before in
-    let accepted = after-if1 .before in
+    let accepted = after-if1 .before .before in
     let r = tested accepted in
     omega arith
 
 slice-write-whole : tie.Need-slice-write-whole
 slice-write-whole c =
     let at-put-controls = c .before .before .before .before in
-    let accepted = at-put-controls .before .before in
+    let accepted = at-put-controls .before .before .before in
     let r = tested accepted in
     omega arith
 
@@ -39,15 +39,15 @@ returns-2 : tie.Need-returns-2
 unfolding setControls unaimed pick
 returns-2 c =
     let put = c .before .before .before .before in
-    let accepted = put .before .before in
-    settled-done _ _ _ _ _ _ _ (accepted .before .refuse-controls .ensures) (accepted .if1 .left) (rw (eq-eqb _ _ (c .if2 .taken), put .put-controls .ensures))
+    let accepted = put .before .before .before in
+    settled-done _ _ _ _ _ _ _ (accepted .before .refuse-controls .ensures) (accepted .if1 .left) (rw (eq-eqb _ _ (c .if2 .taken), put .put-controls .ensures, put .before .kept-controls .ensures))
 
 returns-3 : tie.Need-returns-3
 unfolding setControls unaimed pick
 returns-3 c =
     let put = c .before .before .before .before in
-    let accepted = put .before .before in
-    settled-done _ _ _ _ _ _ _ (accepted .before .refuse-controls .ensures) (accepted .if1 .left) (rw (ne-eqb _ _ (c .if2 .left), put .put-controls .ensures))
+    let accepted = put .before .before .before in
+    settled-done _ _ _ _ _ _ _ (accepted .before .refuse-controls .ensures) (accepted .if1 .left) (rw (ne-eqb _ _ (c .if2 .left), put .put-controls .ensures, put .before .kept-controls .ensures))
 
 pub set-controls-spec : {M : Type 1} → statement M
 set-controls-spec =
@@ -57,6 +57,7 @@ set-controls-spec =
     (λ c. search needs)
     (λ c. search needs)
     returns
+    (λ c κs. tt)
     put-controls-requires
     slice-read-if2
     slice-write-whole

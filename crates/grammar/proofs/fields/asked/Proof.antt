@@ -42,8 +42,12 @@ unfolding asked pick
 returns-9 c = rw (c .match .keys9)
 
 returns-10 : tie.Need-returns-10
+unfolding asked pick
+returns-10 c = rw (c .match .keys10)
+
+returns-11 : tie.Need-returns-11
 unfolding asked
-returns-10 c = search picks depth 40 fits 4000
+returns-11 c = search picks depth 40 fits 4000
 
 pub asked-spec : {M : Type 1} → statement M
-asked-spec = tie.close (tie.spec returns returns-2 returns-3 returns-4 returns-5 returns-6 returns-7 returns-8 returns-9 returns-10)
+asked-spec = tie.close (tie.spec returns returns-2 returns-3 returns-4 returns-5 returns-6 returns-7 returns-8 returns-9 returns-10 returns-11)
