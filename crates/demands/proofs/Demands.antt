@@ -7,21 +7,29 @@ use mathlib.Core.List.{List, _∷_}
 use mathlib.Core.Path.{_≡_, refl, sym, ap, subst, _∙_}
 use native.Mathlib.Omega.{arith}
 use borrow.Author.Tests.{eqb-true, eq-eqb}
-use lib.Ieee.{Float, Format, div, lt, le, eq}
+use lib.IntN.{pos}
+use lib.Ieee.{Float, fin, Format, div, lt, le, eq}
 use lib.ListN.{length}
 use Rattle.real.specs.Number.{one}
 use Rattle.real.specs.Scalar.{usable, within}
+use Rattle.real.specs.Units.{count, minus?}
 use Rattle.vector.specs.declared.Vector.{Vector}
+use Rattle.vector.specs.declared.Rotation.{Rotation}
 use Rattle.vector.specs.declared.Pose.{Pose}
-use Rattle.vector.specs.Arithmetic.{zeroV, scaleV, lengthV, normalizeOrZero}
+use Rattle.vector.specs.Arithmetic.{zeroV, negV, scaleV, lengthV, normalizeOrZero}
 use Rattle.vector.proofs.Fallback.{fellback-is, fellback-zero}
+use Rattle.angle.specs.Angle.{halfOf, sineOf, cosineOf}
+use Rattle.angle.specs.Taylor.{NearTaylor}
+use Rattle.angle.proofs.Taylor.{half-near-taylor}
 use Rattle.body.specs.declared.Chassis.{Chassis}
 use Rattle.wheel.specs.declared.Wheel.{Wheel}
 use Rattle.wheel.specs.declared.Place.{Place}
 use Rattle.wheel.specs.declared.Settings.{Settings}
+use Rattle.wheel.specs.declared.Steering.the-variants.{ByRotation, ByAngle}
 use Rattle.wheel.specs.declared.Controls.{Controls}
 use Rattle.wheel.specs.Ray.{centreOf}
 use Rattle.wheel.specs.Parts.{rollInfluence}
+use Rattle.wheel.specs.Steering.{steeringOf, controlsOf, keptControls, steeringAxis, rotationFromAngle, steeringRotation}
 use Rattle.tyre.specs.declared.Friction.{Friction}
 use Rattle.tyre.specs.declared.WheelTuning.{WheelTuning}
 use Rattle.tyre.specs.Grip.{skidOf, rescaledBy}
@@ -33,11 +41,11 @@ use Rattle.table.specs.Layout as at
 use Rattle.table.specs.Rows.{wheelAt, chassisAt}
 use Rattle.table.specs.Bounds.{HANDED, STORED}
 use Rattle.ground.specs.Frame.{Frame, groundedAt}
-use Rattle.ranges.specs.Ranges.{inUnit, settingsInRange}
+use Rattle.ranges.specs.Ranges.{inUnit, settingsInRange, rotationInRange}
 use Rattle.refusals.specs.Shape.{countOf, markOf, upOf, forwardOf}
 use Rattle.refusals.specs.After.{After, after, settled, marked}
 use Rattle.refusals.specs.Normals.{normalsOk}
-use Rattle.refusals.proofs.Says.{normals-say}
+use Rattle.refusals.proofs.Says.{Shape, normals-say}
 use Rattle.refusals.proofs.Settled.{settled-refused, settled-number}
 use Rattle.set_up.specs.SetUp.{setUp, refuseSetUp}
 use Rattle.add_wheel.specs.Add.{addWheel, refuseAdd}
@@ -50,7 +58,7 @@ use Rattle.passes.specs.Passes.{stored}
 use Rattle.passes.specs.Step.{Work, wholeStep}
 use Rattle.drive.specs.Drive.{driveUnder, driveOf, refuseDrive, notDriven, drivenBy}
 use Rattle.drive.proofs.Accepted.{drive-says}
-use Rattle.demands.specs.History.{State, Call, SetUp, Drive, ReadWheel, answered, accepted, run, runAll, drivenSince, countAfter, readAfter}
+use Rattle.demands.specs.History.{State, Call, SetUp, SetControls, Drive, ReadWheel, answered, accepted, run, runAll, drivenSince, countAfter, readAfter}
 use Rattle.demands.specs.Answers.{isOneOf, answers}
 use Rattle.demands.specs.Held.{Held, handsHeld, HandsHeld}
 use Rattle.demands.specs.Update.{Placed, updateOf, updated}
@@ -58,8 +66,9 @@ use Rattle.demands.specs.Impulses.{Step, stepAfter, Accepted, Stepped, G
 use Rattle.demands.specs.MoreBrake.{AlikeButForBrake}
 use Rattle.demands.specs.Settled.{afterDrive, readAfterDrive, quiet, driveLength, withLength, centreUnder, isFinite}
 use Rattle.demands.specs.Fallback.{axisIn, forwardIn, IsZeroV, NoRoll, NoSide}
+use Rattle.demands.specs.Steered.{directionUnder, axleUnder, TurnsNothing, noneSteers}
 use Rattle.demands.specs.Fixed.{fixedStep, fixedInRange, IsTenth, AllTenth, AddsHand}
-use Rattle.demands.proofs.Marks.{history-from-set-up}
+use Rattle.demands.proofs.Marks.{history-from-set-up, left-by}
 use Rattle.demands.proofs.Five.{five-of-not-driven, not-five-of-driven}
 use Rattle.demands.proofs.Numbers.{number-among}
 use Rattle.demands.proofs.Transforms.{placed-from-set-up}
@@ -73,6 +82,7 @@ use Rattle.demands.proofs.Finite.{settled-finite}
 use Rattle.demands.proofs.Fallback.{yes-of, zero-vector, axis-of-grounded, forward-of-grounded, axis-of-airborne, forward-of-airborne, no-side, no-roll, no-side-push, no-forward-push}
 use Rattle.demands.proofs.Fixed.{tenth-passes, ranges-alike, step-alike}
 use Rattle.demands.proofs.Stored.{stored-from-set-up}
+use Rattle.demands.proofs.Steered.{controls-kept, angle-fits, aimed-axle, aimed-turn, angle-within, zero-turns-nothing, Keeps, kept-by-all, kept-by-controls, steering-of-kept}
 use Rattle.demands.proofs.MoreBrake.{demand-no-less, demand-equal, demand-same}
 
 -- ---- Demand 1. "A bad call is answered by a number of document 01": the number that a call answers is that of its refusal list, 0 where no test of the list fails.
@@ -129,7 +139,7 @@ module _ (f : Format) (t : List Float) (m : List ℕ) where
   unfolding readWheel
   read-refused i h = refusal-changes-nothing _ notRead _ h
 
--- each call's number is one of those that document 01 lets it answer: 9 is never a call's, 3 only an add's, 7 and 12 only a drive's
+-- each call's number is one of those that document 01 lets it answer: 9 is never a call's, 3 only an add's, 17 only an aim's, 7 and 12 only a drive's
 pub answer-in-list : (f : Format) (c : Call) (s : State) → isOneOf (answered f c s .reply) (answers c) ≡ true
 answer-in-list f c s = number-among f c s
 
@@ -403,6 +413,61 @@ module _ (f : Format) (lent : State) (up forward : ℕ) (l : List Call) (set-up 
       let z : refuseDrive f (s .table) (s .whole) r n ≡ 0 = sym (drive-number f (s .table) (s .whole) r n) ∙ eqb-true _ 0 h in
       let each = drive-says f (s .table) (s .whole) r n z .early .frame .each in
       drive-as-before f (s .table) (s .whole) r n (λ i u. stored-as-added (IsTenth f) k i (omega arith)) z
+
+-- ---- Change request 2026-11, "Steering by angle." "Take the angle itself, from −2 to 2 radians, and turn about minus the wheel's world direction, made unit length, at each aim. .. The rotation then goes the old path." Of an
+-- accepted aim from any stored state, with the chassis c, and i the number of a used wheel.
+module _ (f : Format) (t : List Float) (m : List ℕ) (c : Chassis) (i : ℕ) (passed : refuseAim f t m c ≡ 0) (used : i < countOf m) where
+  -- wheel i as the aim finds it, the world direction that this aim works out for it, and the rotation that an angle makes there
+  abbrev pub aimed : Wheel
+  aimed = wheelAt t i
+
+  abbrev pub direction : Vector
+  direction = directionUnder f (c .pose) aimed
+
+  abbrev pub turn : Float → Rotation
+  turn angle = rotationFromAngle f (normalizeOrZero f (negV direction) .vector) angle
+
+  -- a wheel that keeps an angle is steered by that rotation, and one that keeps a rotation by it, as ever
+  pub steered-by-angle : (angle : Float) → steeringOf (aimed .controls .steering) ≡ ByAngle angle → wheelAt (aimOf f t m c .table) i .place .axle ≡ axleUnder f (c .pose) (turn angle) aimed
+  unfolding steeringRotation steeringAxis
+  steered-by-angle angle e = aimed-axle f t m c i passed used (ByAngle angle) e
+
+  pub steered-by-rotation : (q : Rotation) → steeringOf (aimed .controls .steering) ≡ ByRotation q → wheelAt (aimOf f t m c .table) i .place .axle ≡ axleUnder f (c .pose) q aimed
+  unfolding steeringRotation
+  steered-by-rotation q e = aimed-axle f t m c i passed used (ByRotation q) e
+
+  -- "at aim, an axis whose normalising falls back to zero, or a rotation so made outside 01's band, is 17": so here neither is
+  pub accepted-turn : (angle : Float) → steeringOf (aimed .controls .steering) ≡ ByAngle angle → (normalizeOrZero f (negV direction) .fellback ≡ false) × (rotationInRange f (turn angle) ≡ true)
+  unfolding steeringAxis
+  accepted-turn angle e = let tested = aimed-turn f t m c i passed used angle e in (tested .axis, tested .rotation)
+
+  -- "Each must lie within 2^-20 of its Taylor sum through the twelfth power, the sum stated over whole numbers scaled to a common denominator": so they do, where the table holds numbers of the format
+  pub accepted-turn-near-taylor : (angle : Float) → steeringOf (aimed .controls .steering) ≡ ByAngle angle → Held f t
+      → NearTaylor f (minus? (halfOf f angle)) (count f (halfOf f angle)) (sineOf f (halfOf f angle)) (cosineOf f (halfOf f angle))
+  accepted-turn-near-taylor angle e h = half-near-taylor f angle (angle-fits f t i angle h e) (angle-within f t m c i passed used angle e)
+
+  -- an angle of 0, of either sign, is the identity but for the sign of zeros
+  pub angle-zero-turns-nothing : (s : Bool) → steeringOf (aimed .controls .steering) ≡ ByAngle (fin s 0 (pos 0)) → TurnsNothing (turn (fin s 0 (pos 0)))
+  angle-zero-turns-nothing s e = zero-turns-nothing f _ s (accepted-turn (fin s 0 (pos 0)) e .1)
+
+-- "The row keeps the last control given, angle or rotation": after accepted controls of wheel i, and any calls but an accepted set-up or other accepted controls of it, each accepted aim steers it by what was given, about the
+-- direction of that aim. So a turned chassis is steered right with no new control. From any table of the right shape.
+module _ (f : Format) (s : State) (i : ℕ) (given : Controls) (l : List Call) (shape : Shape (s .table) (s .whole)) (set : accepted f (SetControls i given) s ≡ true) (none : noneSteers f i l (run f (SetControls i given) s) ≡ true) where
+  -- what is lent then
+  abbrev pub then : State
+  then = runAll f l (run f (SetControls i given) s)
+
+  keeps : Keeps f i (keptControls given) (then .table) (then .whole)
+  unfolding run
+  keeps = kept-by-all f i (keptControls given) l (run f (SetControls i given) s) (left-by f (SetControls i given) s shape .shape) none (kept-by-controls f i given s set)
+
+  pub row-keeps-controls : controlsOf (wheelAt (then .table) i .controls) ≡ given
+  row-keeps-controls = ap controlsOf (keeps .controls) ∙ controls-kept given
+
+  pub steered-at-each-aim : (c : Chassis) → refuseAim f (then .table) (then .whole) c ≡ 0
+      → wheelAt (aimOf f (then .table) (then .whole) c .table) i .place .axle
+      ≡ axleUnder f (c .pose) (steeringRotation f (directionUnder f (c .pose) (wheelAt (then .table) i)) (given .steering)) (wheelAt (then .table) i)
+  steered-at-each-aim c p = aimed-axle f (then .table) (then .whole) c i p (keeps .used) (given .steering) (steering-of-kept f i given keeps)
 
 -- ---- Change request 2026-13, "More brake, never less braking." "For an unpowered grounded wheel, with chassis after the springs, hit, ground, number of grounded wheels and own row but for the brake held the same, show
 -- that a greater brake never gives a rolling demand of smaller magnitude, nor one of the opposite sign unless a zero is involved. It speaks of the demand before the slide test, for two accepted steps."

@@ -15,7 +15,7 @@ use Rattle.tyre.specs.declared.WheelTuning.{WheelTuning}
 use Rattle.wheel.specs.declared.Wheel.{Wheel}
 use Rattle.road.specs.Step.{applySuspension, applyFriction}
 use Rattle.table.specs.Layout as at
-use Rattle.table.specs.Rows.{settingsList, controlsList, chassisList, rowStart, rowOf, wheelAt, putWheel, chassisAt, putChassis}
+use Rattle.table.specs.Rows.{settingsList, handedControls, chassisList, rowStart, rowOf, wheelAt, putWheel, chassisAt, putChassis}
 use Rattle.ground.specs.Frame.{Frame}
 use Rattle.passes.specs.Passes.{stored, changed, eachWheel, moved, eachMoves, transformAt, transforms, castAt, casts, suspendAt, suspensions, springAt, springs, directionsAt, demandOf, demandAt, demands, rescaleAt, rescales, pushAt, pushes, spinAt, spins}
 use Rattle.passes.specs.Step.{Work, sprung, demanded, pushed, spun, demandStep, wholeStep}
@@ -30,7 +30,7 @@ use Rattle.demands.specs.History.{State, Call, SetUp, AddWheel, SetContr
 use Rattle.demands.specs.Held.{areHeld, Held, normalsIn, handsHeld, HandsHeld}
 use Rattle.demands.proofs.Each.{Each, each-of-held, held-of-each, each-part, each-paste, each-replicate}
 use Rattle.demands.proofs.HeldWheel.{WheelHeld, ChassisHeld, row-held, list-held, wheel-of-held, chassis-of-held}
-use Rattle.demands.proofs.HeldRules.{zero-fits, transform-held, cast-held, suspended-held, rubbed-held, friction-held, rescaled-held, friction-in-held, answered-held, spun-held, controlled-held, new-held, pushed-held}
+use Rattle.demands.proofs.HeldRules.{zero-fits, transform-held, cast-held, suspended-held, rubbed-held, friction-held, rescaled-held, friction-in-held, answered-held, spun-held, controlled-held, kept-held, new-held, pushed-held}
 use Rattle.demands.proofs.Marks.{settled-has, set-up-leaves}
 
 module _ (f : Format) where
@@ -106,7 +106,7 @@ module _ (f : Format) where
       settled-held _ _ _ (s .table) (s .whole) h (put-held (s .table) _ (newWheel settings) h (new-held f settings (each-of-held f (settingsList settings) k)))
   call-held (SetControls i controls) s k h =
       settled-held _ _ _ (s .table) (s .whole) h
-      (put-held (s .table) i _ h (controlled-held f (wheelAt (s .table) i) controls (each-of-held f (controlsList controls) k) (wheel-at-held (s .table) i h)))
+      (put-held (s .table) i _ h (controlled-held f (wheelAt (s .table) i) _ (kept-held f controls (each-of-held f (handedControls controls) k)) (wheel-at-held (s .table) i h)))
   call-held (Aim chassis) s k h = settled-held _ _ _ (s .table) (s .whole) h (aimed-held chassis _ (s .table) (each-of-held f (chassisList chassis) k) h)
   call-held (Drive frame n) s k h =
       settled-held _ _ _ (s .table) (s .whole) h

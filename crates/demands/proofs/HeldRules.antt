@@ -23,7 +23,10 @@ use Rattle.tyre.specs.Demand.{sideResponse, rollingResponse, rollingOf}
 use Rattle.tyre.specs.Grip.{withSkid, rescaledOf, limitOf}
 use Rattle.tyre.proofs.Brake.{one-fits, rescaled-fits, skid-fits, braked-fits}
 use Rattle.wheel.specs.declared.Settings.{Settings}
+use Rattle.wheel.specs.declared.Steering.{Steering}
+use Rattle.wheel.specs.declared.Steering.the-variants.{ByRotation, ByAngle}
 use Rattle.wheel.specs.declared.Controls.{Controls}
+use Rattle.wheel.specs.declared.KeptControls.{KeptControls}
 use Rattle.wheel.specs.declared.Directions.{Directions}
 use Rattle.wheel.specs.declared.Ground.{Ground}
 use Rattle.wheel.specs.declared.Motion.{Motion}
@@ -31,11 +34,12 @@ use Rattle.wheel.specs.declared.Wheel.{Wheel}
 use Rattle.wheel.specs.declared.RayAnswer.{RayAnswer}
 use Rattle.wheel.specs.declared.RayAnswer.the-variants.{Nothing, Hit, HitUp}
 use Rattle.wheel.specs.Parts.{withInfo, withApproach, withMotion, withControls, withFriction, withFallbacks, frictionIn}
+use Rattle.wheel.specs.Steering.{identity, keptSteering, keptControls}
 use Rattle.wheel.specs.Ray.{centreOf, updateWheelTransform, upwardNormal, isUndefined, contactNormal, hitOf, missOf, rayCast}
 use Rattle.road.specs.Contact.{fallbacksOf}
 use Rattle.road.specs.Step.{contactForce, wheelForce, wheelLimit, suspendedOf, sideDemand, rollingDemand, frictionOf, spunBy, updateRotation}
 use Rattle.table.specs.Layout as at
-use Rattle.table.specs.Rows.{vectorList, tuningList, approachList, motionList, fallbacksList, settingsList, controlsList}
+use Rattle.table.specs.Rows.{vectorList, tuningList, approachList, motionList, fallbacksList, settingsList, steeringList, controlsList, handedSteering, handedControls}
 use Rattle.add_wheel.specs.Add.{blankWheel, newWheel}
 use Rattle.demands.specs.Held.{normalsIn}
 use Rattle.demands.proofs.Each.{Each, each-replicate}
@@ -206,7 +210,7 @@ module _ (f : Format) where
   spun-held dt contact chassis w h = let m = h .motion in moving-held w _ (add-fits f _ _, (mul-fits f _ _, m .1 .1)) h
 
   -- ---- a new wheel, and other controls
-  pub controlled-held : (w : Wheel) (c : Controls) → Each f (controlsList c) → WheelHeld f w → WheelHeld f (withControls w c)
+  pub controlled-held : (w : Wheel) (c : KeptControls) → Each f (controlsList c) → WheelHeld f w → WheelHeld f (withControls w c)
   controlled-held w c k h = record {
     info = h .info;
     place = h .place;
@@ -217,12 +221,22 @@ module _ (f : Format) where
     fallbacks = h .fallbacks;
   }
 
+  -- controls that are kept: the other of the two steerings is a new row's
+  kept-steering-held : (s : Steering) → Each f (handedSteering s) → Each f (steeringList (keptSteering s))
+  unfolding keptSteering identity zeroV
+  kept-steering-held (ByRotation q) h = (h .0, (h .1 .0, (h .1 .1 .0, (h .1 .1 .1 .0, (zero-fits, (zero-fits, tt))))))
+  kept-steering-held (ByAngle angle) h = (zero-fits, (zero-fits, (zero-fits, (one-fits f, (h .0, (one-fits f, tt))))))
+
+  pub kept-held : (c : Controls) → Each f (handedControls c) → Each f (controlsList (keptControls c))
+  unfolding keptControls
+  kept-held c h = (h .0, (h .1 .0, kept-steering-held (c .steering) (h .1 .1)))
+
   blank-held : WheelHeld f blankWheel
   unfolding blankWheel
   blank-held = wheel-of-held f (replicate at.ROW zero) (each-replicate f at.ROW zero (zero-fits))
 
   pub new-held : (s : Settings) → Each f (settingsList s) → WheelHeld f (newWheel s)
-  unfolding newWheel zeroV
+  unfolding newWheel identity zeroV
   new-held s k =
       let h = blank-held in
       let z = zero-fits in
@@ -233,7 +247,7 @@ module _ (f : Format) where
         info = h .info;
         place = record { centre = record { x = z; y = z; z = z }; direction = towards; axle = along };
         settings = k;
-        controls = (z, (z, (z, (z, (z, (one-fits f, tt))))));
+        controls = kept-held _ (z, (z, (z, (z, (z, (one-fits f, tt))))));
         approach = h .approach;
         motion = h .motion;
         fallbacks = h .fallbacks;

@@ -10,7 +10,7 @@ use Rattle.vector.specs.declared.Vector.{Vector}
 use Rattle.vector.specs.declared.Rotation.{Rotation}
 use Rattle.vector.specs.Arithmetic.{addV, negV, rotateV}
 use Rattle.table.specs.Layout as at
-use Rattle.table.specs.Rows.{numberAt, vectorList, infoList, placeList, settingsList, controlsList, approachList, motionList, fallbacksList, vectorAt, rotationAt, infoAt, placeAt, settingsAt, tuningAt, controlsAt, approachAt, motionAt, fallbacksAt, wheelOf, rowOf, rotationList, inertiaList, inertiaAt, chassisOf, chassisList}
+use Rattle.table.specs.Rows.{numberAt, vectorList, infoList, placeList, settingsList, controlsList, approachList, motionList, fallbacksList, vectorAt, rotationAt, infoAt, placeAt, settingsAt, tuningAt, steeringAt, controlsAt, approachAt, motionAt, fallbacksAt, wheelOf, rowOf, rotationList, inertiaList, inertiaAt, chassisOf, chassisList}
 use Rattle.body.specs.declared.Chassis.{Chassis}
 use Rattle.wheel.specs.declared.RayCastInfo.{RayCastInfo}
 use Rattle.wheel.specs.declared.Place.{Place}
@@ -120,7 +120,7 @@ module _ (f : Format) where
     vector-held a = record { x = number-fits f l a h; y = number-fits f l (a + 1) h; z = number-fits f l (a + 2) h }
 
     pub wheel-of-held : WheelHeld f (wheelOf l)
-    unfolding listed wheelOf infoAt placeAt settingsAt tuningAt controlsAt approachAt motionAt fallbacksAt vectorAt rotationAt
+    unfolding listed wheelOf infoAt placeAt settingsAt tuningAt steeringAt controlsAt approachAt motionAt fallbacksAt vectorAt rotationAt
     wheel-of-held = record {
       info = record {
         normal = vector-held (at.INFO-AT + at.NORMAL);

@@ -31,11 +31,12 @@ use Rattle.tyre.proofs.Brake.{not-nan-of-braked}
 use Rattle.tyre.proofs.Demand3.{unpowered as unpowered-within, limit-not-negative}
 use Rattle.wheel.specs.declared.Settings.{Settings}
 use Rattle.wheel.specs.declared.Wheel.{Wheel}
-use Rattle.wheel.specs.declared.Controls.{Controls}
+use Rattle.wheel.specs.declared.KeptControls.{KeptControls}
 use Rattle.wheel.specs.declared.Fallbacks.{Fallbacks}
 use Rattle.wheel.specs.declared.Ground.{Ground}
 use Rattle.wheel.specs.declared.RayAnswer.{RayAnswer}
 use Rattle.wheel.specs.Parts.{withFriction, withFallbacks, frictionIn}
+use Rattle.wheel.specs.Steering.{controlsOf}
 use Rattle.wheel.specs.Ray.{isGrounded}
 use Rattle.road.specs.Contact.{directionsOf, fallbacksOf, relativeVelocity, denominatorsOf}
 use Rattle.road.specs.Step as step
@@ -126,6 +127,7 @@ unfolding wheelAt wheelOf controlsAt
 brake-at t i = getD-part t (rowStart i) at.ROW (at.CONTROLS-AT + at.BRAKE) nan (omega arith)
 
 pub brake-of-stepped : {f : Format} {d : Step} {i : ℕ} → Stepped f d i → Brake f (brakeOf d i)
+unfolding controlsOf
 brake-of-stepped {f} {d} {i} s =
     let tested = tests f d (s .accepted) in
     let l = room f d (s .accepted) in
@@ -236,7 +238,7 @@ module _ (f : Format) (d : Step) (i : ℕ) (g : Grounded f d i) (unpowered : pow
   unfolding rollingDemand
   forward-braked =
       forward-is f d i g
-      ∙ ap (λ (c : Controls). rollingOf f (d .frame .dt) (c .engine) (c .brake) (uncutAt f d i)) (sprung-keeps-controls f _ _ _ (storedWheel d i))
+      ∙ ap (λ (c : KeptControls). rollingOf f (d .frame .dt) (c .engine) (c .brake) (uncutAt f d i)) (sprung-keeps-controls f _ _ _ (storedWheel d i))
       ∙ rolled-unpowered f (d .frame .dt) (storedWheel d i .controls .engine) (brakeOf d i) (uncutAt f d i) unpowered
 
   braked-admitted : Admitted f (brakedOf (brakeOf d i) (uncutAt f d i))

@@ -12,6 +12,7 @@ pub mod Settled
 pub mod Fixed
 pub mod Fallback
 pub mod Stored
+pub mod Steered
 pub mod Finite
 pub mod Quiet
 pub mod Numbers

@@ -20,6 +20,7 @@ use Rattle.refusals.proofs.Settled.{settled-refused, settled-done, settled-numb
 use Rattle.set_up.specs.SetUp.{setUp, refuseSetUp}
 use Rattle.add_wheel.specs.Add.{addWheel, refuseAdd, newWheel}
 use Rattle.wheel.specs.Parts.{withControls}
+use Rattle.wheel.specs.Steering.{keptControls}
 use Rattle.set_controls.specs.Controls.{setControls, refuseControls, unaimed}
 use Rattle.read_wheel.specs.Read.{readWheel, refuseRead, notRead, readingOf}
 use Rattle.set_up.proofs.Accepted.{SetUpTested, set-up-says}
@@ -130,8 +131,8 @@ left-by f (SetControls i controls) s h =
     left-of-settled (λ n. n) _ _ (refuseControls f (s .table) (s .whole) i controls) (λ n. n) _ (s .table) (s .whole) refl refl h
     (λ z.
     let a = set-controls-says f (s .table) (s .whole) i controls z in
-    shape-other-table (unaimed-shape (a .shape)) (putWheel (s .table) i (withControls (wheelAt (s .table) i) controls))
-    (length-put (s .table) i (withControls (wheelAt (s .table) i) controls) (a .shape .sized) (let u = a .used in let r = a .shape .room in omega arith)))
+    shape-other-table (unaimed-shape (a .shape)) (putWheel (s .table) i (withControls (wheelAt (s .table) i) (keptControls controls)))
+    (length-put (s .table) i (withControls (wheelAt (s .table) i) (keptControls controls)) (a .shape .sized) (let u = a .used in let r = a .shape .room in omega arith)))
     (λ z. unaimed-driven (s .whole) (h .four)) _ refl
 left-by f (Aim chassis) s h =
     left-of-settled (λ r. r .number) _ _ (refuseAim f (s .table) (s .whole) chassis) notAimed _ (s .table) (s .whole) refl refl h

@@ -35,7 +35,7 @@ abbrev pub sprungWheel : Format → WheelTuning → Body → RayAnswer → Wheel
 sprungWheel f tuning kept answer w = suspendedOf f tuning (kept .invmass) (isGrounded answer) (rayCast f tuning kept answer w)
 
 -- ---- one wheel
-cast-keeps-controls : (f : Format) (tuning : WheelTuning) (kept : Body) (answer : RayAnswer) (w : Wheel) → rayCast f tuning kept answer w .controls ≡ w .controls
+pub cast-keeps-controls : (f : Format) (tuning : WheelTuning) (kept : Body) (answer : RayAnswer) (w : Wheel) → rayCast f tuning kept answer w .controls ≡ w .controls
 unfolding rayCast hitOf missOf
 cast-keeps-controls f tuning kept Nothing w = refl
 cast-keeps-controls f tuning kept (Hit time normal named) w = refl

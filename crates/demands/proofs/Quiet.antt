@@ -9,7 +9,7 @@ use lib.Dec.{eqb}
 use lib.ListN.{length}
 use lib.Ieee.{Float, Format}
 use Rattle.lists.specs.Pick.{pick}
-use Rattle.wheel.specs.declared.Controls.{Controls}
+use Rattle.wheel.specs.declared.KeptControls.{KeptControls}
 use Rattle.wheel.specs.Parts.{withControls}
 use Rattle.wheel.specs.Ray.{settledCentre}
 use Rattle.table.specs.Layout as at
@@ -28,11 +28,11 @@ use Rattle.demands.specs.History.{State, Call, SetUp, AddWheel, SetContr
 use Rattle.demands.specs.Settled.{quiet}
 use Rattle.demands.proofs.Marks.{settled-has, left-by}
 
-not-true : (b : Bool) → not b ≡ true → b ≡ false
+pub not-true : (b : Bool) → not b ≡ true → b ≡ false
 not-true true h = sym h
 not-true false h = refl
 
-both-true : (a b : Bool) → a && b ≡ true → (a ≡ true) × (b ≡ true)
+pub both-true : (a b : Bool) → a && b ≡ true → (a ≡ true) × (b ≡ true)
 both-true true b h = (refl, h)
 both-true false b h = absurd (true≢false (sym h))
 
@@ -47,7 +47,7 @@ refused-keeps of number refused done t m q = either (eqb number 0)
     either false e = refl
 
 -- ---- set controls of wheel j
-controls-keep : (f : Format) (t : List Float) (i j : ℕ) (c : Controls) → length t ≡ at.SIZE → j < at.WHEELS → readingOf f (wheelAt (putWheel t j (withControls (wheelAt t j) c)) i) ≡ readingOf f (wheelAt t i)
+controls-keep : (f : Format) (t : List Float) (i j : ℕ) (c : KeptControls) → length t ≡ at.SIZE → j < at.WHEELS → readingOf f (wheelAt (putWheel t j (withControls (wheelAt t j) c)) i) ≡ readingOf f (wheelAt t i)
 unfolding readingOf settledCentre
 controls-keep f t i j c s l = either (eqb i j) refl
   where
@@ -68,7 +68,7 @@ call-stays f (SetUp up forward) s i shape h = of-same f i s _ (refused-keeps (λ
 call-stays f (AddWheel settings) s i shape h = of-same f i s _ (refused-keeps (λ n. n) _ _ _ (s .table) (s .whole) refl (not-true _ h))
 call-stays f (SetControls j controls) s i shape h =
     settled-has (Stays f i s) _ _ _ (s .table) (s .whole) refl
-    (λ z. let a = set-controls-says f (s .table) (s .whole) j controls z in controls-keep f (s .table) i j controls (shape .sized) (let u = a .used in let r = a .shape .room in omega arith))
+    (λ z. let a = set-controls-says f (s .table) (s .whole) j controls z in controls-keep f (s .table) i j _ (shape .sized) (let u = a .used in let r = a .shape .room in omega arith))
 call-stays f (Aim chassis) s i shape h = of-same f i s _ (refused-keeps (λ r. r .number) _ notAimed _ (s .table) (s .whole) refl (not-true _ h))
 call-stays f (Drive frame n) s i shape h = of-same f i s _ (refused-keeps (λ r. r .number) _ notDriven _ (s .table) (s .whole) refl (not-true _ h))
 call-stays f (ReadWheel j) s i shape h = settled-has (Stays f i s) _ _ _ (s .table) (s .whole) refl (λ z. refl)

@@ -50,7 +50,7 @@ stepped-settings f up r n t s l i u =
     ap (λ (w : Wheel). w .settings) (wheel-stepped f stored r n l t s i u up) ∙ cast-keeps-settings f (wheelAt t i .settings .tuning) (chassisAt t .body) (r .answer i) (wheelAt t i)
 
 -- ---- the whole numbers after controls
-unaimed-count : (m : List ℕ) → length m ≡ at.WHOLE → countOf (unaimed m) ≡ countOf m
+pub unaimed-count : (m : List ℕ) → length m ≡ at.WHOLE → countOf (unaimed m) ≡ countOf m
 unfolding unaimed pick
 unaimed-count m four = either (eqb (markOf m) at.AIMED)
   where

@@ -20,7 +20,7 @@ use Rattle.body.specs.declared.Chassis.{Chassis}
 use Rattle.wheel.specs.declared.Wheel.{Wheel}
 use Rattle.wheel.specs.Ray.{updateWheelTransform}
 use Rattle.table.specs.Layout as at
-use Rattle.table.specs.Rows.{numberAt, vectorAt, rotationAt, inertiaAt, infoAt, placeAt, settingsAt, tuningAt, controlsAt, approachAt, motionAt, fallbacksAt, wheelOf, rowOf, rowStart, wheelAt, putWheel, chassisOf, chassisList, chassisAt, putChassis}
+use Rattle.table.specs.Rows.{numberAt, vectorAt, rotationAt, inertiaAt, infoAt, placeAt, settingsAt, tuningAt, steeringAt, controlsAt, approachAt, motionAt, fallbacksAt, wheelOf, rowOf, rowStart, wheelAt, putWheel, chassisOf, chassisList, chassisAt, putChassis}
 use Rattle.table.proofs.Laws.{length-keep, chassis-put}
 use Rattle.passes.specs.Passes.{changed, eachWheel, transformAt, transforms}
 use Rattle.passes.proofs.Laws.{chassis-each, wheel-each}
@@ -57,7 +57,7 @@ listed-is-all : (l : List Float) (k : ℕ) → length l ≡ k → listed (number
 listed-is-all l k e = listed-is-part l k 0 (omega arith) ∙ part-whole l k e
 
 row-of-wheel : (r : List Float) → length r ≡ at.ROW → rowOf (wheelOf r) ≡ r
-unfolding listed rowOf wheelOf infoAt placeAt settingsAt tuningAt controlsAt approachAt motionAt fallbacksAt vectorAt rotationAt
+unfolding listed rowOf wheelOf infoAt placeAt settingsAt tuningAt steeringAt controlsAt approachAt motionAt fallbacksAt vectorAt rotationAt
 row-of-wheel r e = listed-is-all r at.ROW e
 
 list-of-chassis : (l : List Float) → length l ≡ at.KEPT → chassisList (chassisOf l) ≡ l

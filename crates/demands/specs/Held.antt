@@ -7,7 +7,7 @@ use Rattle.lists.specs.All.{all}
 use Rattle.lists.specs.Counted.{every}
 use Rattle.wheel.specs.declared.RayAnswer.{RayAnswer}
 use Rattle.wheel.specs.declared.RayAnswer.the-variants.{Nothing, Hit, HitUp}
-use Rattle.table.specs.Rows.{vectorList, settingsList, controlsList, chassisList}
+use Rattle.table.specs.Rows.{vectorList, settingsList, handedControls, chassisList}
 use Rattle.demands.specs.History.{Call, SetUp, AddWheel, SetControls, Aim, Drive, ReadWheel}
 
 -- each number is one that the format holds
@@ -27,7 +27,7 @@ normalsIn (HitUp time normal upward named) = vectorList normal ++ vectorList upw
 unfoldable pub handsHeld : Format → Call → Bool
 handsHeld f (SetUp up forward) = true
 handsHeld f (AddWheel settings) = areHeld f (settingsList settings)
-handsHeld f (SetControls i controls) = areHeld f (controlsList controls)
+handsHeld f (SetControls i controls) = areHeld f (handedControls controls)
 handsHeld f (Aim chassis) = areHeld f (chassisList chassis)
 handsHeld f (Drive frame n) = every (λ i. areHeld f (normalsIn (frame .answer i))) n 0
 handsHeld f (ReadWheel i) = true

@@ -7,4 +7,5 @@ pub mod MoreBrake
 pub mod Settled
 pub mod Fixed
 pub mod Fallback
+pub mod Steered
 pub mod Same

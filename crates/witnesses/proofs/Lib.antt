@@ -5,3 +5,4 @@ pub mod Applied
 pub mod Rolls
 pub mod Carts
 pub mod Sledge
+pub mod Tractor

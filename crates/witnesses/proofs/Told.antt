@@ -10,8 +10,9 @@ use Rattle.witnesses.specs.Car.{sixteen, thirty-two}
 use Rattle.witnesses.specs.Calls.{lent, calls, otherCalls}
 use Rattle.witnesses.specs.Carts.{cartCalls, wagonCalls}
 use Rattle.witnesses.specs.Sledge.{sledgeCalls}
+use Rattle.witnesses.specs.Tractor.{tractorCalls}
 use Rattle.witnesses.specs.Stream.{streamWords, answersTo}
-use Rattle.witnesses.specs.Oracle.{asked, told, otherAsked, otherTold, cartAsked, wagonAsked, cartToldFour, cartToldSixteen, wagonToldZero, wagonToldFour, wagonToldThirtyTwo, sledgeAsked, sledgeTold}
+use Rattle.witnesses.specs.Oracle.{asked, told, otherAsked, otherTold, cartAsked, wagonAsked, cartToldFour, cartToldSixteen, wagonToldZero, wagonToldFour, wagonToldThirtyTwo, sledgeAsked, sledgeTold, tractorAsked, tractorTold}
 use Rattle.witnesses.specs.Opened.{opened}
 
 pub record AsTold (l : List Call) (asked told : List (List ℕ)) : Type 0 where
@@ -51,3 +52,8 @@ wagon-thirty-two-as-told = record { words = refl; answers = refl }
 pub sledge-as-told : AsTold sledgeCalls sledgeAsked sledgeTold
 unfolding opened
 sledge-as-told = record { words = refl; answers = refl }
+
+-- ---- the tractor
+pub tractor-as-told : AsTold tractorCalls tractorAsked tractorTold
+unfolding opened
+tractor-as-told = record { words = refl; answers = refl }

@@ -10,6 +10,7 @@ use Rattle.body.specs.declared.Chassis.{Chassis}
 use Rattle.wheel.specs.declared.Settings.{Settings}
 use Rattle.wheel.specs.declared.Controls.{Controls}
 use Rattle.wheel.specs.declared.Wheel.{Wheel}
+use Rattle.wheel.specs.Steering.{keptControls}
 use Rattle.table.specs.Layout as at
 use Rattle.table.specs.Rows.{rowOf, chassisList}
 use Rattle.ground.specs.Frame.{Frame}
@@ -86,7 +87,7 @@ placedAt hard settings controls = record {
   info = record { normal = nowhere; point = nowhere; length = zero; hard = hard };
   place = record { centre = hard; direction = settings .direction; axle = settings .axle };
   settings = settings;
-  controls = controls;
+  controls = keptControls controls;
   approach = record { velocity = zero; inverse = zero };
   motion = record { rotation = zero; spin = zero; force = zero; forward = zero; side = zero; skid = zero };
   fallbacks = record { axis = zero; forward = zero };

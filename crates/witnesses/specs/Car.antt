@@ -11,6 +11,7 @@ use Rattle.vector.specs.declared.Vector.{Vector}
 use Rattle.vector.specs.declared.Rotation.{Rotation}
 use Rattle.body.specs.declared.Chassis.{Chassis}
 use Rattle.wheel.specs.declared.Settings.{Settings}
+use Rattle.wheel.specs.declared.Steering.the-variants.{ByRotation, ByAngle}
 use Rattle.wheel.specs.declared.Controls.{Controls}
 use Rattle.wheel.specs.declared.RayAnswer.{RayAnswer}
 use Rattle.wheel.specs.declared.RayAnswer.the-variants.{Nothing, Hit}
@@ -97,9 +98,12 @@ flattened = hanging two one zero sixteen one
 abbrev pub toppled : Settings
 toppled = withRoll front two
 
--- ---- engine and brake
+-- ---- engine and brake, steered by the rotation that turns nothing; and neither, steered by an angle
 abbrev pub pressed : Float → Float → Controls
-pressed engine brake = record { engine = engine; brake = brake; steering = straight }
+pressed engine brake = record { engine = engine; brake = brake; steering = ByRotation straight }
+
+abbrev pub turned : Float → Controls
+turned angle = record { engine = zero; brake = zero; steering = ByAngle angle }
 
 -- ---- the chassis, of mass 2, with this velocity and this angular velocity; with none of the latter; and with this part of the velocity along the forward axis
 abbrev pub turning : Vector → Vector → Chassis

@@ -10,22 +10,25 @@ use Rattle.real.specs.Number.{ratio}
 use Rattle.real.specs.Root.{rootOf}
 use Rattle.real.specs.Scalar.{inverseOf, usable, raisedOf, loweredOf, clampOf, notBelowZero, within, flagNumber, readsYes}
 use Rattle.vector.specs.Arithmetic.{zeroV, addV, subV, negV, scaleV, partsV, dotV, crossV, lengthV, normalizeOrZero, rotateV, transformPoint, rowsOf, rowDot, rowsDot, inertiaDot, ith}
+use Rattle.angle.specs.Angle.{halfOf, grainsOf, squareOf, bracket, cosineGrains, sineGrains, cosineOf, sineOf}
 use Rattle.body.specs.Body.{velocityAtPoint, applyImpulseAtPoint, impulseDenominator}
 use Rattle.tyre.specs.Suspension.{suspensionLength, approachOf, dampingOf, suspensionForce, cutOf}
 use Rattle.tyre.specs.Demand.{sideResponse, rollingResponse, rollingOf}
 use Rattle.tyre.specs.Grip.{loadOf, slides, skidOf, withSkid, rescaledBy, rescaledOf, brakedOf, limitOf}
+use Rattle.wheel.specs.Steering.{identity, keptSteering, steeringOf, keptControls, controlsOf, steeringAxis, rotationFromAngle, steeringRotation}
 use Rattle.wheel.specs.Ray.{centreOf, settledCentre, updateWheelTransform, rayOf, isZero, upwardNormal, isUndefined, contactNormal, hitOf, missOf, rayCast, isGrounded, namedOf}
 use Rattle.road.specs.Contact.{contactAxis, contactForward, directionsOf, fallbacksOf, dynamicGround, relativeVelocity, swingOf, jacobianDiagonal, denominatorsOf}
 use Rattle.road.specs.Step.{contactForce, wheelForce, suspendedOf, applySuspension, wheelLimit, sideDemand, rollingDemand, frictionOf, sidePoint, applyFriction, contactSpin, spunBy}
 use Rattle.road.specs.Step.{updateRotation}
-use Rattle.table.specs.Rows.{vectorAt, rotationAt, inertiaAt, infoAt, placeAt, tuningAt, settingsAt, controlsAt, approachAt, motionAt, fallbacksAt, wheelOf, rowOf, wheelAt, putWheel, chassisOf}
+use Rattle.table.specs.Rows.{vectorAt, rotationAt, inertiaAt, infoAt, placeAt, tuningAt, settingsAt, steeringAt, controlsAt, approachAt, motionAt, fallbacksAt, wheelOf, rowOf, wheelAt, putWheel, chassisOf}
 use Rattle.table.specs.Rows.{chassisList, chassisAt, putChassis, bodyOf, bodyAt}
 use Rattle.table.specs.Bounds.{allWithin, storedWithin}
-use Rattle.ranges.specs.Ranges.{inRange, inUnit, notNegative, settingsInRange, sumOfSquares, inBand, rotationInRange, controlsInRange, chassisInRange, bodyInRange, bodiesInRange}
+use Rattle.ranges.specs.Ranges.{inRange, inUnit, notNegative, settingsInRange, sumOfSquares, inBand, rotationInRange, steeringInRange, controlsInRange, chassisInRange, bodyInRange, bodiesInRange}
 use Rattle.ranges.specs.Ranges.{wheelInRange, storedInRange}
 use Rattle.refusals.specs.Shape.{sizesOk, axesOk, statusOk, shapeOk}
 use Rattle.refusals.specs.Handed.{settingsHanded, controlsHanded, chassisHanded, vectorHanded, normalsHanded, hitOk, answerOk, answersOk, allNormalsHanded}
 use Rattle.refusals.specs.Normals.{normalOk, hitNormalOk, normalsOk, allNormalsOk}
+use Rattle.refusals.specs.Steered.{turnOk, steeringOk, wheelSteeredOk, allSteeredOk}
 use Rattle.refusals.specs.After.{settled}
 use Rattle.ground.specs.Frame.{groundedAt, groundedWheels, groundNamed, groundUnder}
 use Rattle.passes.specs.Passes.{changed, eachWheel, moved, eachMoves, given, eachGives, transformAt, transforms, castAt, casts, suspendAt, suspensions, springAt, springs, directionsIn}
@@ -45,10 +48,11 @@ use Rattle.demands.specs.Answers.{isOneOf, answers}
 use Rattle.demands.specs.Held.{areHeld, normalsIn, handsHeld}
 use Rattle.demands.specs.Update.{updateOf, updated}
 use Rattle.demands.specs.Settled.{quiet, lengthBy}
+use Rattle.demands.specs.Steered.{steers, noneSteers}
 use Rattle.demands.specs.Fixed.{AddHands, AddsHand}
 use Rattle.scenario.specs.Results.{wordsOf, flagWord}
 use Rattle.replies.specs.Replies.{aimResults, driveResults, settledResults, allResults}
-use Rattle.witnesses.specs.Stream.{answerWords, answersWords, callWords, streamWords, resultsOf, answerOf, answersTo}
+use Rattle.witnesses.specs.Stream.{answerWords, answersWords, controlsCode, callWords, streamWords, resultsOf, answerOf, answersTo}
 
 unfoldable pub open-lists : Unit {0}
 unfolding pick part paste iter every tally all firstFailed
@@ -66,6 +70,10 @@ unfoldable pub open-bodies : Unit {0}
 unfolding velocityAtPoint applyImpulseAtPoint impulseDenominator centreOf settledCentre updateWheelTransform rayOf isZero upwardNormal isUndefined contactNormal hitOf missOf rayCast isGrounded namedOf
 open-bodies = tt
 
+unfoldable pub open-steerings : Unit {0}
+unfolding halfOf grainsOf squareOf bracket cosineGrains sineGrains cosineOf sineOf identity keptSteering steeringOf keptControls controlsOf steeringAxis rotationFromAngle steeringRotation
+open-steerings = tt
+
 unfoldable pub open-tyres : Unit {0}
 unfolding suspensionLength approachOf dampingOf suspensionForce cutOf sideResponse rollingResponse rollingOf loadOf slides skidOf withSkid rescaledBy rescaledOf brakedOf limitOf
 open-tyres = tt
@@ -79,15 +87,15 @@ unfolding contactForce wheelForce suspendedOf applySuspension wheelLimit sideDem
 open-roads = tt
 
 unfoldable pub open-rows : Unit {0}
-unfolding vectorAt rotationAt inertiaAt infoAt placeAt tuningAt settingsAt controlsAt approachAt motionAt fallbacksAt wheelOf rowOf wheelAt putWheel chassisOf chassisList chassisAt putChassis bodyOf bodyAt
+unfolding vectorAt rotationAt inertiaAt infoAt placeAt tuningAt settingsAt steeringAt controlsAt approachAt motionAt fallbacksAt wheelOf rowOf wheelAt putWheel chassisOf chassisList chassisAt putChassis bodyOf bodyAt
 open-rows = tt
 
 unfoldable pub open-bounds : Unit {0}
-unfolding allWithin storedWithin inRange inUnit notNegative settingsInRange sumOfSquares inBand rotationInRange controlsInRange chassisInRange bodyInRange bodiesInRange wheelInRange storedInRange
+unfolding allWithin storedWithin inRange inUnit notNegative settingsInRange sumOfSquares inBand rotationInRange steeringInRange controlsInRange chassisInRange bodyInRange bodiesInRange wheelInRange storedInRange
 open-bounds = tt
 
 unfoldable pub open-tests : Unit {0}
-unfolding sizesOk axesOk statusOk shapeOk settingsHanded controlsHanded chassisHanded vectorHanded normalsHanded hitOk answerOk answersOk allNormalsHanded normalOk hitNormalOk normalsOk allNormalsOk settled
+unfolding sizesOk axesOk statusOk shapeOk settingsHanded controlsHanded chassisHanded vectorHanded normalsHanded hitOk answerOk answersOk allNormalsHanded normalOk hitNormalOk normalsOk allNormalsOk turnOk steeringOk wheelSteeredOk allSteeredOk settled
 open-tests = tt
 
 unfoldable pub open-springs : Unit {0}
@@ -115,13 +123,13 @@ unfolding frameTests numberTests rangeTests earlyTests stepTests refuseUnder ref
 open-drives = tt
 
 unfoldable pub open-histories : Unit {0}
-unfolding answered accepted run runAll drives undrives noneUndrives drivenSince isOneOf answers areHeld normalsIn handsHeld updateOf updated quiet lengthBy AddHands AddsHand
+unfolding answered accepted run runAll drives undrives noneUndrives drivenSince isOneOf answers areHeld normalsIn handsHeld updateOf updated quiet lengthBy steers noneSteers AddHands AddsHand
 open-histories = tt
 
 unfoldable pub open-streams : Unit {0}
-unfolding wordsOf flagWord aimResults driveResults settledResults allResults answerWords answersWords callWords streamWords resultsOf answerOf answersTo
+unfolding wordsOf flagWord aimResults driveResults settledResults allResults answerWords answersWords controlsCode callWords streamWords resultsOf answerOf answersTo
 open-streams = tt
 
 unfoldable pub opened : Unit {0}
-unfolding open-lists open-numbers open-vectors open-bodies open-tyres open-contacts open-roads open-rows open-bounds open-tests open-springs open-frictions open-steps open-calls open-aims open-drives open-histories open-streams
+unfolding open-lists open-numbers open-vectors open-bodies open-steerings open-tyres open-contacts open-roads open-rows open-bounds open-tests open-springs open-frictions open-steps open-calls open-aims open-drives open-histories open-streams
 opened = tt

@@ -4,9 +4,11 @@ use mathlib.Core.List.{List, [], _∷_, _++_}
 use lib.Ieee.{Float, binary32}
 use lib.ListN.{length}
 use Rattle.lists.specs.Pick.{pick}
+use Rattle.wheel.specs.declared.Steering.{Steering}
+use Rattle.wheel.specs.declared.Steering.the-variants.{ByRotation, ByAngle}
 use Rattle.wheel.specs.declared.RayAnswer.{RayAnswer}
 use Rattle.wheel.specs.declared.RayAnswer.the-variants.{Nothing, Hit, HitUp}
-use Rattle.table.specs.Rows.{vectorList, settingsList, controlsList, chassisList}
+use Rattle.table.specs.Rows.{vectorList, settingsList, handedControls, chassisList}
 use Rattle.refusals.specs.Shape.{countOf}
 use Rattle.read_wheel.specs.Read.{readWheel}
 use Rattle.aim.specs.Aim.{aimOf}
@@ -29,11 +31,16 @@ unfoldable pub answersWords : (ℕ → RayAnswer) → ℕ → ℕ → List ℕ
 answersWords answer zero i = []
 answersWords answer (suc k) i = answerWords (answer i) ++ answersWords answer k (suc i)
 
+-- controls have another code with an angle than with a rotation
+unfoldable pub controlsCode : Steering → ℕ
+controlsCode (ByRotation q) = code.CONTROLS
+controlsCode (ByAngle angle) = code.CONTROLS-BY-ANGLE
+
 -- a set-up has no code: the stream starts set up. The frames here have no ground bodies. A wheel is added by code 6, as code 1 adds one with 0.1; it is read by code 9, whose first results are those of codes 5 and 8.
 unfoldable pub callWords : Call → List ℕ
 callWords (SetUp up forward) = []
 callWords (AddWheel settings) = code.ADD-ROLLED ∷ patterns (settingsList settings)
-callWords (SetControls i controls) = code.CONTROLS ∷ i ∷ patterns (controlsList controls)
+callWords (SetControls i controls) = controlsCode (controls .steering) ∷ i ∷ patterns (handedControls controls)
 callWords (Aim chassis) = code.AIM ∷ patterns (chassisList chassis)
 callWords (Drive frame n) = code.DRIVE ∷ patterns (frame .dt ∷ []) ++ (length (frame .dynamic) ∷ n ∷ answersWords (frame .answer) n 0)
 callWords (ReadWheel i) = code.READ-ALL ∷ i ∷ []
