@@ -1,11 +1,12 @@
 //! Which wheels had no axis or no rolling direction, and why.
 
-use std::collections::BTreeMap;
 use std::fmt;
 
 use vehicle::math::Vector;
 use vehicle::program::Line;
 use vehicle::table::{Grip, ACCEPTED};
+
+use crate::cases::Cases;
 
 /// The code of a read with both answers, and where they begin in its results.
 const READ_ALL: u32 = 9;
@@ -44,7 +45,7 @@ const CASES: [(&str, &[&str]); 4] = [
 /// How often each case was met.
 #[derive(Clone, Debug, Default)]
 pub struct Directions {
-    cases: BTreeMap<(&'static str, &'static str), u64>,
+    cases: Cases,
 }
 
 impl Directions {
@@ -53,7 +54,7 @@ impl Directions {
             return;
         }
         if line.code == READ_ALL {
-            self.count(READ, said(&line.results[FELL_BACK..]));
+            self.cases.count(READ, said(&line.results[FELL_BACK..]));
         }
         for grip in &line.grips {
             self.add_wheel(grip);
@@ -64,31 +65,21 @@ impl Directions {
     fn add_wheel(&mut self, grip: &Grip) {
         let left = grip.axle - grip.normal * grip.axle.dot(grip.normal);
         match grip.fell_back {
-            [true, _] => self.count(NO_AXIS, cause(left)),
+            [true, _] => self.cases.count(NO_AXIS, cause(left)),
             [false, true] => {
-                self.count(NO_FORWARD, cause(grip.normal.cross(left.normalize_or_zero())));
+                let crossed = grip.normal.cross(left.normalize_or_zero());
+                self.cases.count(NO_FORWARD, cause(crossed));
             }
             [false, false] if grip.fell_back_before != [false; 2] => {
-                self.count(BEFORE, if grip.grounded { ON_THE_GROUND } else { IN_THE_AIR });
+                self.cases.count(BEFORE, if grip.grounded { ON_THE_GROUND } else { IN_THE_AIR });
             }
             _ => (),
         }
     }
 
-    fn count(&mut self, group: &'static str, case: &'static str) {
-        *self.cases.entry((group, case)).or_default() += 1;
-    }
-
     /// Both together.
-    pub fn and(mut self, other: Directions) -> Directions {
-        for (case, count) in other.cases {
-            *self.cases.entry(case).or_default() += count;
-        }
-        self
-    }
-
-    fn of(&self, case: (&'static str, &'static str)) -> u64 {
-        self.cases.get(&case).copied().unwrap_or(0)
+    pub fn and(self, other: Directions) -> Directions {
+        Directions { cases: self.cases.and(other.cases) }
     }
 }
 
@@ -114,13 +105,7 @@ fn cause(vector: Vector) -> &'static str {
 
 impl fmt::Display for Directions {
     fn fmt(&self, out: &mut fmt::Formatter) -> fmt::Result {
-        writeln!(out, "what fell back")?;
-        for (group, names) in CASES {
-            let counts: Vec<String> =
-                names.iter().map(|name| format!("{name}: {}", self.of((group, name)))).collect();
-            writeln!(out, "  {group:<16} {}", counts.join(", "))?;
-        }
-        Ok(())
+        write!(out, "what fell back\n{}", self.cases.lines(&CASES, 16))
     }
 }
 
@@ -145,7 +130,7 @@ mod tests {
         for (group, names) in CASES {
             for name in names {
                 let is_met = *name != AXIS && *name != OVERFLOW;
-                let count = directions.of((group, name));
+                let count = directions.cases.of(group, name);
                 assert_eq!(count > 0, is_met, "{group}, {name}: {directions}");
             }
         }
@@ -161,7 +146,7 @@ mod tests {
         }
         for (group, names) in CASES {
             for name in names {
-                assert!(directions.of((group, name)) > 0, "{group}, {name}: {directions}");
+                assert!(directions.cases.of(group, name) > 0, "{group}, {name}: {directions}");
             }
         }
     }

@@ -1,6 +1,8 @@
 //! Running a program on a scenario, and comparing what it printed with what the oracle says.
 #![forbid(unsafe_code)]
 
+mod angles;
+mod cases;
 mod centres;
 mod difference;
 mod directions;

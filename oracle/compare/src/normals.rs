@@ -1,6 +1,5 @@
 //! Which hits refusal 12 was asked about: the ends of the band, and the zero normals.
 
-use std::collections::BTreeMap;
 use std::fmt;
 
 use vehicle::handed::Hit;
@@ -8,6 +7,8 @@ use vehicle::math::Vector;
 use vehicle::program::Line;
 use vehicle::ranges::{is_exempt, BAND};
 use vehicle::table::{ACCEPTED, BAD_DEMAND, BAD_NORMAL, BAD_RESULT, OUT_OF_RANGE};
+
+use crate::cases::Cases;
 
 /// The answers of a drive whose normals were tested.
 const TESTED: [u32; 5] = [ACCEPTED, BAD_NORMAL, OUT_OF_RANGE, BAD_DEMAND, BAD_RESULT];
@@ -17,7 +18,7 @@ const UPWARD: &str = "upward normals";
 const EXEMPT: &str = "zero, exempt";
 const REFUSED: &str = "zero, refused";
 
-/// Where the sum of squares of a normal that is not zero stands, from small to large.
+/// Where a sum of squares stands, from small to large.
 const SHORTER: &str = "shorter";
 const BELOW: &str = "a step below the lower end";
 const LOWER: &str = "lower end";
@@ -27,12 +28,15 @@ const ABOVE: &str = "a step above the upper end";
 const LONGER: &str = "longer";
 const TWO: &str = "two long";
 
-const PLACES: [&str; 8] = [SHORTER, BELOW, LOWER, INSIDE, UPPER, ABOVE, LONGER, TWO];
+pub const PLACES: [&str; 7] = [SHORTER, BELOW, LOWER, INSIDE, UPPER, ABOVE, LONGER];
+
+/// Of normals also how many are two long.
+const OF_NORMALS: [&str; 8] = [SHORTER, BELOW, LOWER, INSIDE, UPPER, ABOVE, LONGER, TWO];
 
 /// Every case, in the order in which they are printed.
 const CASES: [(&str, &[&str]); 4] = [
-    (OWN, &PLACES),
-    (UPWARD, &PLACES),
+    (OWN, &OF_NORMALS),
+    (UPWARD, &OF_NORMALS),
     (EXEMPT, &["at time 0", "at time -0", "a part is -0", "beside an upward normal"]),
     (REFUSED, &["at another time", "the upward one at time 0", "the upward one at another time"]),
 ];
@@ -41,7 +45,7 @@ const CASES: [(&str, &[&str]); 4] = [
 #[derive(Clone, Debug, Default)]
 pub struct Normals {
     hits: u64,
-    cases: BTreeMap<(&'static str, &'static str), u64>,
+    cases: Cases,
 }
 
 impl Normals {
@@ -52,29 +56,21 @@ impl Normals {
         }
         for hit in &line.hits {
             self.hits += 1;
-            for case in cases_of(hit) {
-                *self.cases.entry(case).or_default() += 1;
+            for (group, case) in cases_of(hit) {
+                self.cases.count(group, case);
             }
         }
     }
 
     /// Both together.
-    pub fn and(mut self, other: Normals) -> Normals {
-        self.hits += other.hits;
-        for (case, count) in other.cases {
-            *self.cases.entry(case).or_default() += count;
-        }
-        self
-    }
-
-    fn of(&self, case: (&'static str, &'static str)) -> u64 {
-        self.cases.get(&case).copied().unwrap_or(0)
+    pub fn and(self, other: Normals) -> Normals {
+        Normals { hits: self.hits + other.hits, cases: self.cases.and(other.cases) }
     }
 }
 
 fn cases_of(hit: &Hit) -> Vec<(&'static str, &'static str)> {
-    let mut cases: Vec<_> = place_of(hit.normal).map(|place| (OWN, place)).into_iter().collect();
-    cases.extend(hit.upward_normal.and_then(place_of).map(|place| (UPWARD, place)));
+    let mut cases: Vec<_> = normal_at(hit.normal).map(|place| (OWN, place)).into_iter().collect();
+    cases.extend(hit.upward_normal.and_then(normal_at).map(|place| (UPWARD, place)));
     if is_exempt(hit) {
         cases.push((EXEMPT, if hit.time.is_sign_negative() { "at time -0" } else { "at time 0" }));
         if hit.normal.parts().into_iter().any(f32::is_sign_negative) {
@@ -95,32 +91,31 @@ fn cases_of(hit: &Hit) -> Vec<(&'static str, &'static str)> {
 }
 
 /// Zero normals are counted by themselves.
-fn place_of(normal: Vector) -> Option<&'static str> {
+fn normal_at(normal: Vector) -> Option<&'static str> {
+    let sum = normal.dot(normal);
+    let place = if (sum - 4.0).abs() < 0.001 { TWO } else { place_of(sum) };
+    (normal != Vector::ZERO).then_some(place)
+}
+
+/// Where a sum of squares stands, which the band around 1 is asked about.
+pub fn place_of(sum: f32) -> &'static str {
     let (lower, upper) = (1.0 - BAND, 1.0 + BAND);
     let below = f32::from_bits(lower.to_bits() - 1);
     let above = f32::from_bits(upper.to_bits() + 1);
-    let place = match normal.dot(normal) {
+    match sum {
         sum if sum < below => SHORTER,
         sum if sum == below => BELOW,
         sum if sum == lower => LOWER,
         sum if sum < upper => INSIDE,
         sum if sum == upper => UPPER,
         sum if sum == above => ABOVE,
-        sum if (sum - 4.0).abs() < 0.001 => TWO,
         _ => LONGER,
-    };
-    (normal != Vector::ZERO).then_some(place)
+    }
 }
 
 impl fmt::Display for Normals {
     fn fmt(&self, out: &mut fmt::Formatter) -> fmt::Result {
-        writeln!(out, "hits that 12 saw {}", self.hits)?;
-        for (group, names) in CASES {
-            let counts: Vec<String> =
-                names.iter().map(|name| format!("{name}: {}", self.of((group, name)))).collect();
-            writeln!(out, "  {group:<14} {}", counts.join(", "))?;
-        }
-        Ok(())
+        write!(out, "hits that 12 saw {}\n{}", self.hits, self.cases.lines(&CASES, 14))
     }
 }
 
@@ -139,7 +134,7 @@ mod tests {
         }
         for (group, names) in CASES {
             for name in names {
-                assert!(normals.of((group, name)) > 0, "{group}, {name}: {normals}");
+                assert!(normals.cases.of(group, name) > 0, "{group}, {name}: {normals}");
             }
         }
     }

@@ -1,16 +1,19 @@
 //! Which roll influences code 6 handed in, and where they counted.
 
-use std::collections::BTreeMap;
 use std::fmt;
 
 use vehicle::program::Line;
 use vehicle::ranges::may_be_handed_in;
 use vehicle::table::{ACCEPTED, BAD_NUMBER, OUT_OF_RANGE};
 
+use crate::cases::Cases;
+
 /// The answers of an add whose roll influence was tested.
 const TESTED: [u32; 3] = [ACCEPTED, BAD_NUMBER, OUT_OF_RANGE];
 
 const A_TENTH: f32 = 0.1;
+
+const ROLLS: &str = "roll influences";
 
 const BELOW: &str = "below 0";
 const STEP_BELOW: &str = "a step below 0";
@@ -44,7 +47,7 @@ const CASES: [&str; 12] = [
 /// How often each case was met.
 #[derive(Clone, Debug, Default)]
 pub struct Rolls {
-    cases: BTreeMap<&'static str, u64>,
+    cases: Cases,
     /// Wheels of accepted drives with a side demand and a roll influence that is not 0.1.
     wheels: u64,
     /// Accepted drives in which such a wheel stands beside one with another roll influence.
@@ -54,7 +57,7 @@ pub struct Rolls {
 impl Rolls {
     pub fn add(&mut self, line: &Line) {
         if let (Some(roll), true) = (line.roll_influence, TESTED.contains(&line.answer)) {
-            *self.cases.entry(case_of(roll)).or_default() += 1;
+            self.cases.count(ROLLS, case_of(roll));
         }
         if line.answer != ACCEPTED {
             return;
@@ -67,17 +70,12 @@ impl Rolls {
     }
 
     /// Both together.
-    pub fn and(mut self, other: Rolls) -> Rolls {
-        for (case, count) in other.cases {
-            *self.cases.entry(case).or_default() += count;
+    pub fn and(self, other: Rolls) -> Rolls {
+        Rolls {
+            cases: self.cases.and(other.cases),
+            wheels: self.wheels + other.wheels,
+            drives: self.drives + other.drives,
         }
-        self.wheels += other.wheels;
-        self.drives += other.drives;
-        self
-    }
-
-    fn of(&self, case: &'static str) -> u64 {
-        self.cases.get(case).copied().unwrap_or(0)
     }
 }
 
@@ -88,12 +86,12 @@ fn case_of(roll: f32) -> &'static str {
         roll if roll < -tiny => BELOW,
         roll if roll == -tiny => STEP_BELOW,
         roll if roll == 0.0 && roll.is_sign_negative() => MINUS_ZERO,
-        roll if roll == 0.0 => ZERO,
+        0.0 => ZERO,
         roll if roll == tiny => STEP_ABOVE_ZERO,
         roll if roll == A_TENTH => TENTH,
         roll if roll.to_bits() == 1.0f32.to_bits() - 1 => STEP_BELOW_ONE,
         roll if roll < 1.0 => BETWEEN,
-        roll if roll == 1.0 => ONE,
+        1.0 => ONE,
         roll if roll.to_bits() == 1.0f32.to_bits() + 1 => STEP_ABOVE,
         _ => ABOVE,
     }
@@ -101,9 +99,7 @@ fn case_of(roll: f32) -> &'static str {
 
 impl fmt::Display for Rolls {
     fn fmt(&self, out: &mut fmt::Formatter) -> fmt::Result {
-        let counts: Vec<String> =
-            CASES.iter().map(|case| format!("{case}: {}", self.of(case))).collect();
-        writeln!(out, "roll influences  {}", counts.join(", "))?;
+        writeln!(out, "{ROLLS}  {}", self.cases.line(ROLLS, &CASES))?;
         writeln!(
             out,
             "  wheels with a side demand and another than 0.1: {}; drives with two of them: {}",
@@ -126,7 +122,7 @@ mod tests {
             program::run(&generate(Kind::Roll, seed)).iter().for_each(|line| rolls.add(line));
         }
         for case in CASES {
-            assert!(rolls.of(case) > 0, "{case}: {rolls}");
+            assert!(rolls.cases.of(ROLLS, case) > 0, "{case}: {rolls}");
         }
         assert!(rolls.wheels > 1000 && rolls.drives > 100, "{rolls}");
     }

@@ -6,16 +6,17 @@ use std::fmt;
 use vehicle::program::Line;
 use vehicle::table::{ACCEPTED, MALFORMED};
 
+use crate::angles::Angles;
 use crate::centres::Centres;
 use crate::directions::Directions;
 use crate::normals::Normals;
 use crate::rolls::Rolls;
 
 /// The refusal numbers of document 01 and of the change requests, 0 included.
-const ANSWERS: [u32; 12] = [0, 1, 2, 3, 4, 5, 6, 7, 8, 9, 10, 12];
+const ANSWERS: [u32; 13] = [0, 1, 2, 3, 4, 5, 6, 7, 8, 9, 10, 12, 17];
 
 /// The codes that there are, and what each is called.
-const CODES: [(u32, &str); 9] = [
+const CODES: [(u32, &str); 10] = [
     (0, "end"),
     (1, "add"),
     (2, "controls"),
@@ -25,6 +26,7 @@ const CODES: [(u32, &str); 9] = [
     (6, "add rolled"),
     (8, "read settled"),
     (9, "read all"),
+    (10, "by angle"),
 ];
 
 /// Counts over all scenarios.
@@ -44,6 +46,7 @@ pub struct Tally {
     normals: Normals,
     rolls: Rolls,
     directions: Directions,
+    angles: Angles,
 }
 
 impl Tally {
@@ -57,6 +60,7 @@ impl Tally {
             self.rolls.add(line);
             self.directions.add(line);
         }
+        self.angles.add(lines);
     }
 
     fn add_wheels(&mut self, line: &Line) {
@@ -88,6 +92,7 @@ impl Tally {
         self.normals = self.normals.and(other.normals);
         self.rolls = self.rolls.and(other.rolls);
         self.directions = self.directions.and(other.directions);
+        self.angles = self.angles.and(other.angles);
         self
     }
 
@@ -121,7 +126,8 @@ impl fmt::Display for Tally {
                 .filter(|(_, count)| *count > 0)
                 .map(|(answer, count)| format!("{answer}: {count}"))
                 .collect();
-            writeln!(out, "  {code} {name:<12} {}", answers.join(", "))?;
+            let called = format!("{code} {name}");
+            writeln!(out, "  {called:<14} {}", answers.join(", "))?;
         }
         let unknown = self.count(|code, _| !is_known(code));
         writeln!(out, "  unknown codes  {unknown}")?;
@@ -133,7 +139,8 @@ impl fmt::Display for Tally {
             self.sliding, self.gripping, self.airborne
         )?;
         writeln!(out, "  sliding with a skid not below 1: {}", self.sliding_unscaled)?;
-        write!(out, "{}{}{}{}", self.centres, self.normals, self.rolls, self.directions)?;
+        write!(out, "{}{}{}", self.centres, self.normals, self.rolls)?;
+        write!(out, "{}{}", self.directions, self.angles)?;
         let seen = ANSWERS.map(|answer| format!("{answer}: {}", self.count(|_, a| a == answer)));
         writeln!(out, "answers          {}", seen.join(", "))
     }

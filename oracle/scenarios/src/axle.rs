@@ -49,14 +49,9 @@ fn changed(random: &mut Random, kind: Kind, seed: u64) -> Vec<u8> {
     stream_of(&with_axles(random, codes_of(&generate(kind, seed))))
 }
 
-/// The stream that the first run of its faults breaks: every code stands in it.
-pub fn unbroken() -> Vec<u8> {
-    stream_of(&axle_base(0))
-}
-
 /// The codes that the kind `roll` breaks, with an axle of length zero in the first wheel, and both wheels
 /// read by code 9 too.
-fn axle_base(run: u64) -> Vec<Code> {
+pub fn axle_base(run: u64) -> Vec<Code> {
     let mut codes = rolled_base(run);
     if let Some(Code::Add(wheel)) = codes.first_mut() {
         wheel.axle = Vector::ZERO;
@@ -201,20 +196,5 @@ fn along(random: &mut Random, axle: Vector, hit: Hit) -> Hit {
     match hit.upward_normal {
         Some(_) if hit.time == 0.0 => Hit { upward_normal: Some(-normal), ..hit },
         _ => Hit { normal, ..hit },
-    }
-}
-
-#[cfg(test)]
-mod tests {
-    use super::*;
-
-    /// Every code stands in it, and every call is accepted: a cut may fall in each of them.
-    #[test]
-    fn the_unbroken_stream_has_every_code() {
-        let lines = program::run(&unbroken());
-        assert!(lines.iter().all(|line| line.answer == 0));
-        for code in [0, 1, 2, 3, 4, 5, 6, 8, 9] {
-            assert!(lines.iter().any(|line| line.code == code), "code {code}");
-        }
     }
 }

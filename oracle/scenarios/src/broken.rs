@@ -119,8 +119,8 @@ fn one_whole_changed(random: &mut Random, tokens: &[Token]) -> Vec<u8> {
     bytes_of(&tokens)
 }
 
-/// In place of one code an unknown one, a count over its limit, or a 9: that one reads, and takes the
-/// code behind it for its wheel.
+/// In place of one code an unknown one, a count over its limit, or a 9 or a 10: those read, and take what
+/// is behind them for their fields.
 fn code_in_place(random: &mut Random, codes: &[Code]) -> Vec<u8> {
     let place = random.below(codes.len());
     let before: Vec<Token> = codes[..place].iter().flat_map(Code::tokens).collect();

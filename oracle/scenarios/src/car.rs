@@ -4,7 +4,7 @@
 //! together; in some frames one tyre's engine force or brake is put at the very edge of its grip.
 
 use vehicle::handed::{Chassis, Controls, Drive, GroundBody, Hit, NewWheel, RayAnswer};
-use vehicle::math::{Pose, Rotation, Vector};
+use vehicle::math::{Pose, Rotation, Steering, Vector};
 use vehicle::table::ACCEPTED;
 
 use crate::parts::turn;
@@ -189,10 +189,11 @@ impl Car {
                 Powered::Rear => pair + 1 == pairs,
                 Powered::All => true,
             };
+            let steering = if pair == 0 { turn(up, self.driver.steer) } else { Rotation::IDENTITY };
             Controls {
                 engine: if is_powered { self.driver.engine } else { 0.0 },
                 brake: self.driver.brake,
-                steering: if pair == 0 { turn(up, self.driver.steer) } else { Rotation::IDENTITY },
+                steering: Steering::Rotation(steering),
             }
         };
         (0..self.script.count()).map(one).collect()

@@ -1,7 +1,7 @@
 //! Numbers, counts and demands at the ends of what is accepted.
 
 use vehicle::handed::{Chassis, Controls, Drive, GroundBody, Hit, NewWheel};
-use vehicle::math::{Pose, Rotation, Vector};
+use vehicle::math::{Pose, Rotation, Steering, Vector};
 use vehicle::program;
 use vehicle::stream::{Code, Token};
 use vehicle::table::{Table, ACCEPTED};
@@ -60,7 +60,7 @@ fn plain_wheel() -> NewWheel {
 }
 
 fn plain_controls() -> Controls {
-    Controls { engine: 0.0, brake: 2.0, steering: Rotation::IDENTITY }
+    Controls { engine: 0.0, brake: 2.0, steering: Steering::Rotation(Rotation::IDENTITY) }
 }
 
 fn plain_chassis() -> Chassis {
@@ -320,7 +320,8 @@ fn with_rotation(random: &mut Random, codes: Vec<Code>) -> Vec<Code> {
         let pose = Pose { rotation, ..chassis.pose };
         with_changed(codes, AIM, Code::Aim(Chassis { pose, ..chassis }))
     } else {
-        let controls = Controls { steering: rotation, ..plain_controls() };
+        let steering = Steering::Rotation(rotation);
+        let controls = Controls { steering, ..plain_controls() };
         with_changed(codes, CONTROLS, Code::Controls(0, controls))
     }
 }

@@ -4,7 +4,7 @@
 //! As in `car`, the chassis is moved between the frames from the oracle's own answers.
 
 use vehicle::handed::{Chassis, Controls, Drive, Hit, NewWheel, RayAnswer};
-use vehicle::math::{Pose, Rotation, Vector};
+use vehicle::math::{Pose, Rotation, Steering, Vector};
 
 use crate::car::{turned, turned_inertia, GRAVITY};
 use crate::parts::turn;
@@ -139,12 +139,13 @@ fn frame(script: &mut Script, driver: &Driver, chassis: Chassis, reads: u32) -> 
     let up = chassis.pose.rotation * Vector::new(0.0, 1.0, 0.0);
     for wheel in 0..4 {
         let is_front = wheel < 2;
+        let steering = if is_front { turn(up, driver.steer) } else { Rotation::IDENTITY };
         script.controls(
             wheel,
             Controls {
                 engine: if is_front { 0.0 } else { driver.engine },
                 brake: driver.brake,
-                steering: if is_front { turn(up, driver.steer) } else { Rotation::IDENTITY },
+                steering: Steering::Rotation(steering),
             },
         );
     }

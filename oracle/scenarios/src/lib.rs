@@ -15,14 +15,14 @@ mod random;
 mod roll;
 mod rubbish;
 mod script;
+mod steer;
 mod turning;
 mod wild;
 
-use random::Random;
-
-pub use axle::unbroken;
 pub use example::{drives, example, landing};
+pub use random::Random;
 pub use rubbish::{rubbish, Rubbish};
+pub use steer::unbroken;
 
 /// What a scenario is like.
 #[derive(Copy, Clone, Debug, PartialEq)]
@@ -41,11 +41,21 @@ pub enum Kind {
     Roll,
     /// The others with axles along the ground's normal or without a length: reads by code 9.
     Axle,
+    /// The others with wheels steered by angle: controls by code 10.
+    Steer,
 }
 
 impl Kind {
-    pub const ALL: [Kind; 7] =
-        [Kind::Car, Kind::Edge, Kind::Wild, Kind::Bad, Kind::Broken, Kind::Roll, Kind::Axle];
+    pub const ALL: [Kind; 8] = [
+        Kind::Car,
+        Kind::Edge,
+        Kind::Wild,
+        Kind::Bad,
+        Kind::Broken,
+        Kind::Roll,
+        Kind::Axle,
+        Kind::Steer,
+    ];
 
     pub fn name(self) -> &'static str {
         match self {
@@ -56,6 +66,7 @@ impl Kind {
             Kind::Broken => "broken",
             Kind::Roll => "roll",
             Kind::Axle => "axle",
+            Kind::Steer => "steer",
         }
     }
 
@@ -75,5 +86,6 @@ pub fn generate(kind: Kind, seed: u64) -> Vec<u8> {
         Kind::Broken => broken::scenario(&mut random, seed),
         Kind::Roll => roll::scenario(&mut random, seed),
         Kind::Axle => axle::scenario(&mut random, seed),
+        Kind::Steer => steer::scenario(&mut random, seed),
     }
 }

@@ -1,7 +1,7 @@
 //! `scenarios KIND SEED`: writes the scenario's bytes to standard output. The kind `rubbish`
 //! writes a table's contents and codes, as `oracle --state` reads them. `scenarios example` writes
 //! the example of `examples/`, `scenarios landing` the landing there, `scenarios drives N` a stream
-//! of N aims and drives, `scenarios unbroken` a stream that the kind `axle` breaks,
+//! of N aims and drives, `scenarios unbroken` a stream that the kind `steer` breaks,
 //! in which every code stands.
 #![forbid(unsafe_code)]
 

@@ -1,7 +1,7 @@
 //! Wheels, chassis, bodies and answers of many sizes, most of them accepted.
 
 use vehicle::handed::{Chassis, Controls, Drive, GroundBody, Hit, NewWheel, RayAnswer};
-use vehicle::math::{Pose, Rotation, Vector};
+use vehicle::math::{Pose, Rotation, Steering, Vector};
 use vehicle::ranges::BAND;
 
 use crate::random::Random;
@@ -122,7 +122,7 @@ impl Size {
         Controls {
             engine: if powered { self.number(random) } else { random.pick(&[0.0, -0.0]) },
             brake: if random.once_in(3) { 0.0 } else { self.positive(random) },
-            steering: rotation(random),
+            steering: Steering::Rotation(rotation(random)),
         }
     }
 
@@ -243,7 +243,7 @@ pub fn along_an_axis(random: &mut Random) -> Vector {
     ])
 }
 
-fn unit_vector(random: &mut Random) -> Vector {
+pub fn unit_vector(random: &mut Random) -> Vector {
     let mut part = || random.between(-1.0, 1.0);
     Vector::new(part(), part(), part()).normalize_or_zero()
 }

@@ -1,15 +1,16 @@
 //! Tables of any contents with a few calls on them: demand 2 holds from every stored state.
 
-use vehicle::handed::{Drive, Hit};
-use vehicle::math::Vector;
+use vehicle::handed::{Controls, Drive, Hit};
+use vehicle::math::{Steering, Vector};
 use vehicle::row::{self, Row, ROW, TABLE, WHEELS};
 use vehicle::stream::{bytes_of, table_tokens, Code};
 use vehicle::table::{Table, MARK_AIMED};
 
 use crate::axle::{a_read, long, tiny};
-use crate::parts::{along_an_axis, rotation, Size, MOST};
+use crate::parts::{a_zero, along_an_axis, rotation, Size, MOST};
 use crate::random::Random;
 use crate::roll::{bad_roll, good_roll, rolled};
+use crate::steer::{bad_angle, good_angle, with_a_rounded_square};
 
 /// 2^40: the greatest number that may be stored.
 const MOST_STORED: f32 = 1_099_511_627_776.0;
@@ -29,6 +30,9 @@ pub fn rubbish(seed: u64) -> Rubbish {
     if seed % 4 == 3 {
         return driven_at_once(&mut random);
     }
+    if seed % 8 == 1 {
+        return aimed_twice(&mut random);
+    }
     let table = table(&mut random);
     let codes = codes(&mut random, &table);
     Rubbish { table, codes }
@@ -46,6 +50,17 @@ fn driven_at_once(random: &mut Random) -> Rubbish {
         }
     }
     let mut codes = vec![Code::Drive(drive)];
+    codes.extend((0..table.count).map(Code::ReadAll));
+    codes.push(Code::End);
+    Rubbish { table, codes }
+}
+
+/// Steering of any kind, which two aims of other chassis work on, with a drive and reads behind them.
+fn aimed_twice(random: &mut Random) -> Rubbish {
+    let size = Size::TAME;
+    let table = filled(random, size);
+    let mut codes = vec![Code::Aim(size.chassis(random)), Code::Aim(size.chassis(random))];
+    codes.push(Code::Drive(size.drive(random, table.count as usize)));
     codes.extend((0..table.count).map(Code::ReadAll));
     codes.push(Code::End);
     Rubbish { table, codes }
@@ -106,11 +121,50 @@ fn fit_settings(random: &mut Random, size: Size, table: &mut Table, wheel: usize
     }
     row.0[row::ROLL_INFLUENCE] =
         if random.once_in(24) { bad_roll(random) } else { good_roll(random) };
-    row.set_steering(rotation(random));
+    fill_steering(random, size, &mut row);
+    if random.once_in(4) {
+        odd_direction(random, &mut row);
+    }
     if random.once_in(2) {
         odd_transforms(random, &mut row);
     }
     table.set_row(wheel, &row);
+}
+
+/// A rotation or an angle, most of them in their range, as no control stores them: any number but 0 says
+/// that it is an angle, and the other of the two may hold anything.
+fn fill_steering(random: &mut Random, size: Size, row: &mut Row) {
+    let least = f32::from_bits(1);
+    let is_bad = random.once_in(24);
+    if random.once_in(2) {
+        let kept = rotation(random).parts();
+        let factor = if is_bad { random.pick(&[1.01, 0.99, 0.0]) } else { 1.0 };
+        row.0[row::STEERING..row::ANGLE].copy_from_slice(&kept.map(|part| part * factor));
+        row.0[row::ANGLE] = random.pick(&[0.0, 1.0, 3.0, -MOST, MOST_STORED]);
+        row.0[row::KIND] = random.pick(&[0.0, -0.0]);
+    } else {
+        for part in &mut row.0[row::STEERING..row::ANGLE] {
+            let number = size.number(random);
+            *part = random.pick(&[0.0, number, -MOST_STORED]);
+        }
+        row.0[row::ANGLE] = if is_bad { bad_angle(random) } else { good_angle(random) };
+        row.0[row::KIND] = random.pick(&[1.0, 1.0, -1.0, -3.5, 0.5, least, -least, MOST_STORED]);
+    }
+    if random.once_in(48) {
+        row.0[row::STEERED][random.below(6)] = f32::NAN;
+    }
+}
+
+/// A direction that an angle may have no axis along.
+fn odd_direction(random: &mut Random, row: &mut Row) {
+    let direction = match random.below(6) {
+        0 => a_zero(random),
+        1 => tiny(random),
+        2 => long(random) * (MOST_STORED / MOST),
+        3 => along_an_axis(random),
+        _ => with_a_rounded_square(random),
+    };
+    row.0[row::DIRECTION..][..3].copy_from_slice(&direction.parts());
 }
 
 /// What fell back, as no drive stores it: a read takes any number but 0 for a yes.
@@ -171,6 +225,17 @@ fn from_inside(random: &mut Random, mut drive: Drive) -> Drive {
     drive
 }
 
+/// Half of them by angle.
+fn controls(random: &mut Random, size: Size) -> Controls {
+    let controls = size.controls(random);
+    let steering = match random.below(8) {
+        0..=3 => controls.steering,
+        4 => Steering::Angle(bad_angle(random)),
+        _ => Steering::Angle(good_angle(random)),
+    };
+    Controls { steering, ..controls }
+}
+
 fn codes(random: &mut Random, table: &Table) -> Vec<Code> {
     let size = Size::any(random);
     let mut codes = Vec::new();
@@ -182,7 +247,7 @@ fn codes(random: &mut Random, table: &Table) -> Vec<Code> {
                 let wheel = size.wheel(random);
                 Code::Add(rolled(random, wheel))
             }
-            1 => Code::Controls(wheel, size.controls(random)),
+            1 => Code::Controls(wheel, controls(random, size)),
             2 | 3 => Code::Aim(size.chassis(random)),
             4 => Code::Drive(size.drive(random, wheels)),
             5 => {

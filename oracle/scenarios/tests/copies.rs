@@ -31,7 +31,7 @@ fn bits(outcome: &Outcome) -> Vec<u32> {
 #[test]
 fn as_sent_and_stored_agree_after_an_aim() {
     let mut drives = 0;
-    for kind in [Kind::Car, Kind::Edge, Kind::Wild] {
+    for kind in [Kind::Car, Kind::Edge, Kind::Wild, Kind::Steer] {
         for seed in 0..60 {
             let mut table = Table::new();
             for code in codes_of(&generate(kind, seed)) {
@@ -72,10 +72,10 @@ fn scenarios_are_determined_by_kind_and_seed() {
 }
 
 /// Tables of rubbish get every answer of a call, and refusals leave them alone: 9 is the stream's,
-/// and nothing has 11.
+/// and nothing has 11 or 13 to 16.
 #[test]
 fn tables_of_rubbish() {
-    let mut seen = [0; 13];
+    let mut seen = [0; 18];
     let mut drives = 0;
     for seed in 0..4000 {
         let scenarios::Rubbish { mut table, codes } = rubbish(seed);
@@ -95,7 +95,8 @@ fn tables_of_rubbish() {
         }
     }
     for answer in 0..seen.len() {
-        assert_eq!(seen[answer] > 0, answer != 9 && answer != 11, "answer {answer}: {seen:?}");
+        let is_given = !matches!(answer, 9 | 11 | 13..=16);
+        assert_eq!(seen[answer] > 0, is_given, "answer {answer}: {seen:?}");
     }
     assert!(drives > 100, "{drives} accepted drives");
 }

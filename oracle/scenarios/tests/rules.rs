@@ -2,18 +2,19 @@
 //! steps: where the two differed, the text and the source would not say the same.
 
 use scenarios::{generate, rubbish, Kind};
-use vehicle::handed::{Chassis, Drive, GroundBody, Hit, NewWheel};
-use vehicle::math::{Inertia, Vector};
+use vehicle::handed::{Chassis, Controls, Drive, GroundBody, Hit, NewWheel};
+use vehicle::math::{Inertia, Rotation, Steering, Vector};
 use vehicle::program::call;
 use vehicle::row::{self, Row};
 use vehicle::stream::{Code, Reader};
-use vehicle::table::{Table, ACCEPTED};
+use vehicle::table::{Table, ACCEPTED, BAD_RESULT, BAD_TURN};
 use vehicle::utils::inv;
 
 /// The table after a call that is accepted.
 fn by_the_rules(table: &Table, code: &Code) -> Option<Table> {
     match code {
         Code::Add(wheel) => Some(add(table, wheel)),
+        Code::Controls(wheel, controls) => Some(set(table, *wheel as usize, controls)),
         Code::Aim(chassis) => Some(aim(table, chassis)),
         Code::Drive(drive) => Some(Driving::new(table, drive).run()),
         _ => None,
@@ -25,7 +26,8 @@ fn put(row: &mut Row, place: usize, vector: Vector) {
 }
 
 /// "A new row holds what was handed in, direction and axle also as the world ones, identity steering,
-/// 0 elsewhere." Change request 2026-07: code 1 means 0.1.
+/// 0 elsewhere." Change request 2026-07: code 1 means 0.1. Change request 2026-11: the angle and its kind
+/// are 0 too.
 fn add(table: &Table, wheel: &NewWheel) -> Table {
     let mut row = Row::ZERO;
     let first = row::CONNECTION_POINT;
@@ -41,6 +43,77 @@ fn add(table: &Table, wheel: &NewWheel) -> Table {
     after
 }
 
+/// "Set controls (engine, brake, steering): an aimed mark becomes new; others stay." Change request 2026-11:
+/// "The row keeps the last control given, angle or rotation."
+fn set(table: &Table, wheel: usize, controls: &Controls) -> Table {
+    let mut row = table.row(wheel);
+    let steered = match controls.steering {
+        Steering::Rotation(Rotation { x, y, z, w }) => [x, y, z, w, 0.0, 0.0],
+        Steering::Angle(angle) => [0.0, 0.0, 0.0, 1.0, angle, 1.0],
+    };
+    row.0[row::ENGINE] = controls.engine;
+    row.0[row::BRAKE] = controls.brake;
+    row.0[row::BRAKE + 1..row::RELATIVE_VELOCITY].copy_from_slice(&steered);
+    let mut after = table.clone();
+    after.set_row(wheel, &row);
+    after.mark = if table.mark == 1 { 0 } else { table.mark };
+    after
+}
+
+/// One in the units of the Taylor sums of change request 2026-11.
+const UNIT: u128 = 1 << 30;
+
+/// 1 − s/(k·(k+1)) · (the same for k + 2), up to the twelfth power, each time up to the next whole unit.
+fn taylor(square: u128, k: u128) -> u128 {
+    if k > 11 {
+        return UNIT;
+    }
+    let below = UNIT * k * (k + 1);
+    (UNIT * below - square * taylor(square, k + 2)).div_ceil(below)
+}
+
+/// The same as the nearest float. The half angle's units come from its bits: it is its fraction times a
+/// power of two.
+fn taylor_of(half: f32, k: u128) -> f32 {
+    let exponent = half.abs().to_bits() >> 23;
+    let fraction = u128::from(half.to_bits() & 0x7F_FFFF | u32::from(exponent > 0) << 23);
+    // The fraction counts in 2^(exponent − 150), a unit is 2^-30; the exponent of 1 is 127.
+    let units = (fraction << 7) >> (127 - exponent.max(1));
+    taylor(units * units / UNIT, k) as f32 / UNIT as f32
+}
+
+/// Change request 2026-11: "turn about minus the wheel's world direction, made unit length, at each aim".
+/// Nothing where the normalising falls back.
+fn by_angle(angle: f32, direction: Vector) -> Option<Rotation> {
+    let half = angle * 0.5;
+    let r = 1.0 / direction.dot(direction).sqrt();
+    let axis = if falls_back(direction) { None } else { Some(-direction * r) };
+    let Vector { x, y, z } = axis? * (half * taylor_of(half, 2));
+    Some(Rotation::new(x, y, z, taylor_of(half, 1)))
+}
+
+/// Change request 2026-11: "at aim, an axis whose normalising falls back to zero, or a rotation so made
+/// outside 01's band, is 17".
+fn has_a_bad_turn(table: &Table, chassis: &Chassis) -> bool {
+    let rows = (0..table.count as usize).map(|wheel| table.row(wheel));
+    rows.filter(|row| row.0[row::KIND] != 0.0).any(|row| {
+        let direction = chassis.pose.rotation * row.vector(row::DIRECTION);
+        by_angle(row.0[row::ANGLE], direction).is_none_or(|Rotation { x, y, z, w }| {
+            let sum = x * x + y * y + z * z + w * w;
+            !(1.0 - 1.0 / 1024.0..=1.0 + 1.0 / 1024.0).contains(&sum)
+        })
+    })
+}
+
+/// The rotation that counts. Only an aim that is refused has an angle and no axis.
+fn steering(row: &Row, direction: Vector) -> Rotation {
+    let [x, y, z, w] = [0, 1, 2, 3].map(|part| row.0[row::STEERING + part]);
+    if row.0[row::KIND] == 0.0 {
+        return Rotation::new(x, y, z, w);
+    }
+    by_angle(row.0[row::ANGLE], direction).unwrap_or(Rotation::IDENTITY)
+}
+
 /// Rule 1.
 fn aim(table: &Table, chassis: &Chassis) -> Table {
     let mut after = table.clone();
@@ -51,7 +124,7 @@ fn aim(table: &Table, chassis: &Chassis) -> Table {
         let turn = chassis.pose.rotation;
         let hard_point = &chassis.pose * row.vector(row::CONNECTION_POINT);
         let direction = turn * row.vector(row::DIRECTION);
-        let axle = row.steering() * (turn * row.vector(row::AXLE));
+        let axle = steering(&row, direction) * (turn * row.vector(row::AXLE));
         let center = hard_point + direction * row.0[row::SUSPENSION_LENGTH];
         put(&mut row, row::HARD_POINT, hard_point);
         put(&mut row, row::CENTER, center);
@@ -388,12 +461,18 @@ fn bits(table: &Table) -> Vec<u32> {
     whole.into_iter().chain(numbers).collect()
 }
 
-/// Runs the codes and holds every accepted add, aim and drive against the rules. Gives their number.
+/// Runs the codes and holds every accepted add, control, aim and drive against the rules, and of each aim
+/// that was tested for it whether it is refused with 17. Gives the number of those accepted.
 fn hold(mut table: Table, codes: &[Code], what: &str) -> usize {
     let mut held = 0;
     for code in codes {
         let before = table.clone();
-        if call(&mut table, code).answer != ACCEPTED {
+        let answer = call(&mut table, code).answer;
+        if let (Code::Aim(chassis), ACCEPTED | BAD_TURN | BAD_RESULT) = (code, answer) {
+            let is_bad = has_a_bad_turn(&before, chassis);
+            assert_eq!(answer == BAD_TURN, is_bad, "{what}: {code:?}");
+        }
+        if answer != ACCEPTED {
             continue;
         }
         if let Some(expected) = by_the_rules(&before, code) {
@@ -465,6 +544,25 @@ fn drives_say_what_fell_back() {
     for counts in [streams.fold([0; 4], total), tables.fold([0; 4], total)] {
         assert!(counts[..3].iter().all(|count| *count > 100), "{counts:?}");
         assert_eq!(counts[3], 0);
+    }
+}
+
+/// What is held above is held of many angles: those of accepted aims, and those of aims that were refused
+/// with 17.
+#[test]
+fn aims_by_angle_are_held() {
+    let streams = (0..300).map(|seed| (Table::new(), codes_of(&generate(Kind::Steer, seed))));
+    let tables = (0..4000).map(rubbish).map(|scenarios::Rubbish { table, codes }| (table, codes));
+    let total = |counts: [usize; 2], (mut table, codes): (Table, Vec<Code>)| {
+        let lines = codes.iter().map(|code| call(&mut table, code));
+        lines.fold(counts, |[aimed, refused], line| match line.answer {
+            ACCEPTED => [aimed + line.steers.len(), refused],
+            BAD_TURN => [aimed, refused + 1],
+            _ => [aimed, refused],
+        })
+    };
+    for counts in [streams.fold([0; 2], total), tables.fold([0; 2], total)] {
+        assert!(counts.iter().all(|count| *count > 100), "{counts:?}");
     }
 }
 

@@ -1,7 +1,7 @@
 
 // Lines of ours, appended by the oracle's build to a copy of the file above; the file itself stays as sent.
 impl crate::step::Kept for Wheel {
-    /// The numbers that a row keeps, in its order. Steering is kept as a rotation elsewhere.
+    /// The numbers that a row keeps, in its order. Steering is kept elsewhere.
     fn kept(&mut self) -> [&mut Real; crate::row::KEPT] {
         let info = &mut self.raycast_info;
         [

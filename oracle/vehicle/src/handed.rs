@@ -1,9 +1,9 @@
 //! What a host hands in: a new wheel, controls, a chassis, ground bodies and ray answers.
 //!
 //! `numbers` gives each one's floats in the order of the scenario stream, which is also the order
-//! in which a chassis is kept.
+//! in which a chassis is kept; `handed_in` does so where two codes hand in different ones.
 
-use crate::math::{Inertia, Pose, Real, Rotation, Vector};
+use crate::math::{Inertia, Pose, Real, Rotation, Steering, Vector};
 use crate::row::CHASSIS;
 
 /// What an added wheel is made of; the seven from the stiffness on are those of `WheelTuning`, in its
@@ -85,19 +85,18 @@ impl NewWheel {
 pub struct Controls {
     pub engine: Real,
     pub brake: Real,
-    pub steering: Rotation,
+    pub steering: Steering,
 }
 
 impl Controls {
-    pub const NUMBERS: usize = 6;
-
-    pub fn numbers(&self) -> [Real; Self::NUMBERS] {
-        let [x, y, z, w] = self.steering.parts();
-        [self.engine, self.brake, x, y, z, w]
-    }
-
-    pub fn from_numbers([engine, brake, x, y, z, w]: [Real; Self::NUMBERS]) -> Self {
-        Controls { engine, brake, steering: Rotation::new(x, y, z, w) }
+    /// Every number that is handed in: six with a rotation, three with an angle.
+    pub fn handed_in(&self) -> Vec<Real> {
+        let mut numbers = vec![self.engine, self.brake];
+        match self.steering {
+            Steering::Rotation(rotation) => numbers.extend(rotation.parts()),
+            Steering::Angle(angle) => numbers.push(angle),
+        }
+        numbers
     }
 }
 

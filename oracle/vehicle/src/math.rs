@@ -193,23 +193,68 @@ impl Mul<Vector> for Inertia {
     }
 }
 
-thread_local! {
-    /// The steering rotations that the source will ask for, in wheel order.
-    static STEERING: RefCell<VecDeque<Rotation>> = const { RefCell::new(VecDeque::new()) };
+/// How a wheel is steered: by a rotation in world space, or by an angle about minus its world direction
+/// (change request 2026-11).
+#[derive(Copy, Clone, Debug, PartialEq)]
+pub enum Steering {
+    Rotation(Rotation),
+    Angle(Real),
 }
 
-/// Lines up the kept steering rotations, the first wheel's first.
-pub fn line_up_steering(rotations: impl Iterator<Item = Rotation>) {
+thread_local! {
+    /// How the wheels are steered whose rotations the source will ask for, in wheel order.
+    static STEERING: RefCell<VecDeque<Steering>> = const { RefCell::new(VecDeque::new()) };
+}
+
+/// Lines up how the wheels are steered, the first wheel first.
+pub fn line_up_steering(wheels: impl Iterator<Item = Steering>) {
     STEERING.with_borrow_mut(|queue| {
         queue.clear();
-        queue.extend(rotations);
+        queue.extend(wheels);
     });
 }
 
-/// The next wheel's kept steering rotation. Document 01 keeps it in place of the angle, so the
-/// argument, which the source works out from the angle, is not looked at.
-pub fn rotation_from_angle(_axis_times_angle: Vector) -> Rotation {
-    STEERING.with_borrow_mut(|queue| queue.pop_front().unwrap_or(Rotation::IDENTITY))
+/// The next wheel's steering rotation. Where document 01 keeps it in place of the angle, the argument,
+/// minus the direction times the source's own steering, is not looked at; where an angle is kept, that
+/// steering is 1, and the argument says what to turn about.
+pub fn rotation_from_angle(against: Vector) -> Rotation {
+    match STEERING.with_borrow_mut(VecDeque::pop_front) {
+        Some(Steering::Rotation(rotation)) => rotation,
+        Some(Steering::Angle(angle)) => turn_about(against, angle),
+        None => Rotation::IDENTITY,
+    }
+}
+
+/// The rotation by this angle about a vector that is made unit length first.
+pub fn turn_about(vector: Vector, angle: Real) -> Rotation {
+    let half = angle * 0.5;
+    let Vector { x, y, z } = vector.normalize_or_zero() * sine(half);
+    Rotation::new(x, y, z, cosine(half))
+}
+
+/// 2^30: what the whole numbers of the Taylor sums count in one.
+const UNIT: i128 = 1 << 30;
+
+/// The Taylor sum through the twelfth power, nested and cut to whole units at each step, as
+/// crates/angle/specs/Angle.antt defines it; the nearest float to it. For sizes up to 1.
+pub fn cosine(half: Real) -> Real {
+    nested(half, &[11 * 12, 9 * 10, 7 * 8, 5 * 6, 3 * 4, 2]) as Real
+}
+
+/// The same through the eleventh power: what is left of the sum once the half angle is taken out of it,
+/// as the nearest float, times the half angle.
+pub fn sine(half: Real) -> Real {
+    half * nested(half, &[10 * 11, 8 * 9, 6 * 7, 4 * 5, 2 * 3]) as Real
+}
+
+/// 1 − s/d · (1 − s/d' · (…)), s being the square and d the last of these divisors. The size, the square
+/// and each subtrahend are cut to whole units, and no number of units has more than 31 bits, so that the
+/// double is exact.
+fn nested(half: Real, divisors: &[i128]) -> f64 {
+    let size = (f64::from(half.abs()) * UNIT as f64).floor() as i128;
+    let square = size * size / UNIT;
+    let sum = divisors.iter().fold(UNIT, |inner, d| UNIT - square * inner / (UNIT * d));
+    sum as f64 / UNIT as f64
 }
 
 #[cfg(test)]
@@ -301,8 +346,81 @@ mod tests {
     #[test]
     fn steering_comes_in_wheel_order() {
         let turned = Rotation::new(0.0, 1.0, 0.0, 0.0);
-        line_up_steering([turned, Rotation::IDENTITY].into_iter());
+        let up = Vector::new(0.0, 1.0, 0.0);
+        let kept = [turned, Rotation::IDENTITY].map(Steering::Rotation);
+        line_up_steering(kept.into_iter().chain([Steering::Angle(0.0)]));
+        // A rotation that is kept does not look at the argument, an angle turns about it.
         assert_eq!(rotation_from_angle(Vector::ZERO), turned);
-        assert_eq!(rotation_from_angle(Vector::ZERO), Rotation::IDENTITY);
+        assert_eq!(rotation_from_angle(up), Rotation::IDENTITY);
+        assert_eq!(rotation_from_angle(up), Rotation::IDENTITY);
+        line_up_steering([Steering::Angle(1.0)].into_iter());
+        assert_eq!(rotation_from_angle(up * 2.0), turn_about(up, 1.0));
+    }
+
+    /// 2^29 units have the square 2^28, a quarter. The cosine's subtrahends, from inside out:
+    /// 2^28/132 = 2033601, 1071708223/360 = 2976967, 1070764857/224 = 4780200, 1068961624/120 = 8908013,
+    /// 1064833811/48 = 22184037, 1051557787/8 = 131444723. 942297101 units are left, and a float has
+    /// steps of 64 of them there: 14723392.2 steps. The sine's: 2^28/110 = 2440322, 1071301502/288 =
+    /// 3719796, 1070022028/168 = 6369178, 1067372646/80 = 13342158, 1060399666/24 = 44183319; left are
+    /// 1029558505 units, 16086851.6 steps.
+    #[test]
+    fn half_a_radian() {
+        let steps = |count: Real| count / BIG;
+        assert_eq!(cosine(0.5), steps(14_723_392.0));
+        assert_eq!(sine(0.5), 0.5 * steps(16_086_852.0));
+    }
+
+    /// 2^-11 is 2^19 units, its square 2^8. The last subtrahends are 256/12 = 21 less a trifle and 128
+    /// less a trifle, so that 127 units are taken away, two steps of 64 nearly; for the sine 256/6 = 42,
+    /// less than one. 2^-12 has the square 64: 31 are taken away, which is less than half a step.
+    #[test]
+    fn small_angles() {
+        let one = 1.0f32.to_bits();
+        let [eleventh, twelfth] = [1.0 / 2048.0, 1.0 / 4096.0];
+        assert_eq!(cosine(eleventh).to_bits(), one - 2);
+        assert_eq!(sine(eleventh), eleventh * Real::from_bits(one - 1));
+        assert_eq!(cosine(twelfth), 1.0);
+        // What is below a unit has no size; the sine is still the angle itself, to the last subnormal.
+        for size in [1e-10, Real::MIN_POSITIVE, Real::from_bits(1), 0.0] {
+            assert_eq!((cosine(size), sine(size)), (1.0, size));
+            assert_eq!((cosine(-size), sine(-size).to_bits()), (1.0, (-size).to_bits()));
+        }
+    }
+
+    /// The request: within 2^-20 of the Taylor sum through the twelfth power. Here over doubles, which
+    /// have the sums to about 2^-53.
+    #[test]
+    fn near_the_taylor_sums() {
+        let (mut even, mut odd) = (0.0f64, 0.0f64);
+        for step in -4096..=4096 {
+            let half = step as Real / 4096.0;
+            let x = f64::from(half);
+            let (mut cos, mut sin, mut term) = (0.0, 0.0, 1.0);
+            for power in 0..=12 {
+                let sign = if power % 4 < 2 { 1.0 } else { -1.0 };
+                *if power % 2 == 0 { &mut cos } else { &mut sin } += sign * term;
+                term *= x / f64::from(power + 1);
+            }
+            even = even.max((f64::from(cosine(half)) - cos).abs());
+            odd = odd.max((f64::from(sine(half)) - sin).abs());
+        }
+        let bound = 1.0 / 1_048_576.0;
+        assert!(even <= bound && odd <= bound, "{even:e} {odd:e}");
+    }
+
+    #[test]
+    fn an_angle_turns_about_a_vector_of_any_length() {
+        let [up, ahead] = [1, 2].map(|place| Vector::ith(place, 1.0));
+        let turned = |vector, angle| turn_about(vector, angle) * ahead;
+        // To the right hand's side: z goes toward x.
+        let once = turned(up, 0.5);
+        assert!(once.x > 0.0 && once.y == 0.0 && once.z > 0.0, "{once:?}");
+        assert_eq!(turned(-up, 0.5), Vector::new(-once.x, 0.0, once.z));
+        assert_eq!(turned(up, -0.5), Vector::new(-once.x, 0.0, once.z));
+        for length in [2.0, 0.25, BIG, 1.0 / BIG] {
+            assert_eq!(turned(up * length, 0.5), once);
+        }
+        // Nothing to turn about: only the cosine is left.
+        assert_eq!(turn_about(Vector::ZERO, 1.0), Rotation::new(0.0, 0.0, 0.0, cosine(0.5)));
     }
 }

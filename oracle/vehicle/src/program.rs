@@ -2,10 +2,10 @@
 
 use std::fmt::Write;
 
-use crate::handed::Hit;
+use crate::handed::{Controls, Hit};
 use crate::math::Real;
-use crate::stream::{add_code, Code, Malformed, Reader};
-use crate::table::{Grip, Table, WheelRead, ACCEPTED, MALFORMED};
+use crate::stream::{add_code, controls_code, Code, Malformed, Reader};
+use crate::table::{Grip, Steer, Table, WheelRead, ACCEPTED, MALFORMED};
 
 /// The first line of every output.
 pub const TITLE: &str = "vehicle 1";
@@ -23,6 +23,10 @@ pub struct Line {
     pub hits: Vec<Hit>,
     /// What an add handed in, accepted or not; not printed.
     pub roll_influence: Option<Real>,
+    /// The wheel whose controls were set and what was handed in, accepted or not; not printed.
+    pub controls: Option<(u32, Controls)>,
+    /// What an aim that tested refusal 17 made of each angle; not printed.
+    pub steers: Vec<Steer>,
 }
 
 impl Line {
@@ -34,6 +38,8 @@ impl Line {
             grips: Vec::new(),
             hits: Vec::new(),
             roll_influence: None,
+            controls: None,
+            steers: Vec::new(),
         }
     }
 
@@ -62,7 +68,11 @@ pub fn call(table: &mut Table, code: &Code) -> Line {
             let roll_influence = wheel.roll_influence;
             Line { roll_influence, ..Line::plain(add_code(wheel), answer) }
         }
-        Code::Controls(wheel, controls) => Line::plain(2, table.set_controls(*wheel, controls)),
+        Code::Controls(wheel, controls) => {
+            let answer = table.set_controls(*wheel, controls);
+            let handed_in = Some((*wheel, *controls));
+            Line { controls: handed_in, ..Line::plain(controls_code(controls), answer) }
+        }
         Code::Aim(chassis) => {
             let aimed = table.aim(chassis);
             let mut floats = vec![aimed.speed];
@@ -70,7 +80,7 @@ pub fn call(table: &mut Table, code: &Code) -> Line {
                 floats.extend(hard_point.parts());
                 floats.extend(ray.parts());
             }
-            Line::with_results(3, aimed.answer, words(&floats))
+            Line { steers: aimed.steers, ..Line::with_results(3, aimed.answer, words(&floats)) }
         }
         Code::Drive(drive) => {
             let driven = table.drive(drive);

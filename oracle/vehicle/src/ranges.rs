@@ -1,7 +1,7 @@
-//! The bounds of refusal 2 and 7 and 8, the ranges of refusal 10, and the band of refusal 12.
+//! The bounds of refusal 2 and 7 and 8, the ranges of refusal 10, and the band of refusals 12 and 17.
 
 use crate::handed::{Chassis, Controls, GroundBody, Hit, NewWheel};
-use crate::math::{Real, Rotation, Vector};
+use crate::math::{Real, Rotation, Steering, Vector};
 use crate::row::{self, Row};
 
 /// 2^20: the greatest magnitude of a number handed in.
@@ -14,6 +14,8 @@ pub const LEAST_INVERSE_MASS: Real = 1.0 / 1_048_576.0;
 pub const MOST_INVERSE_MASS: Real = 1_048_576.0;
 /// 2^-10: how far the sum of squares of a rotation, or of a normal, may lie from 1.
 pub const BAND: Real = 1.0 / 1024.0;
+/// The greatest magnitude of a steering angle, in radians: change request 2026-11.
+pub const MOST_ANGLE: Real = 2.0;
 
 /// Finite and not above 2^20 in magnitude. NaN fails both comparisons.
 pub fn may_be_handed_in(number: Real) -> bool {
@@ -42,6 +44,18 @@ pub fn in_band(sum_of_squares: Real) -> bool {
 
 pub fn rotation_in_range(rotation: Rotation) -> bool {
     in_band(rotation.sum_of_squares())
+}
+
+pub fn angle_in_range(angle: Real) -> bool {
+    lies_between(-MOST_ANGLE, angle, MOST_ANGLE)
+}
+
+/// Of the rotation and the angle the one that counts.
+pub fn steering_in_range(steering: Steering) -> bool {
+    match steering {
+        Steering::Rotation(rotation) => rotation_in_range(rotation),
+        Steering::Angle(angle) => angle_in_range(angle),
+    }
 }
 
 /// A normal's sum of squares is its dot with itself.
@@ -81,7 +95,7 @@ pub fn new_wheel_in_range(wheel: &NewWheel) -> bool {
 }
 
 pub fn controls_in_range(controls: &Controls) -> bool {
-    at_least_zero(controls.brake) && rotation_in_range(controls.steering)
+    at_least_zero(controls.brake) && steering_in_range(controls.steering)
 }
 
 /// The settings that a row has stored, those of its controls included.
@@ -100,7 +114,7 @@ pub fn row_in_range(row: &Row) -> bool {
     row.0[row::RADIUS] > 0.0
         && others.into_iter().all(|place| at_least_zero(row.0[place]))
         && roll_influence_in_range(row.0[row::ROLL_INFLUENCE])
-        && rotation_in_range(row.steering())
+        && steering_in_range(row.steering())
 }
 
 pub fn chassis_in_range(chassis: &Chassis) -> bool {

@@ -2,24 +2,24 @@
 //!
 //! A row holds the numbers of `Wheel` and `RayCastInfo` part by part: the ray's info, the place, the
 //! settings, the controls, the approach, the motion. Contact and ground object are not kept; steering
-//! is kept as a rotation. Behind them stand the two numbers of change request 2026-05, which `Wheel`
-//! does not have.
+//! is kept as a rotation, an angle and which of the two counts (change request 2026-11). Behind them
+//! stand the two numbers of change request 2026-05, which `Wheel` does not have.
 
 use std::ops::Range;
 
-use crate::math::{Real, Rotation, Vector};
+use crate::math::{Real, Rotation, Steering, Vector};
 
 /// Wheels that a table has room for.
 pub const WHEELS: usize = 16;
 /// Numbers of the kept chassis.
 pub const CHASSIS: usize = 26;
 /// Numbers of one wheel's row.
-pub const ROW: usize = 54;
+pub const ROW: usize = 56;
 /// Numbers of a table.
 pub const TABLE: usize = CHASSIS + WHEELS * ROW;
 /// Numbers of a row that the source's `Wheel` holds as they are: neither its steering nor what fell
 /// back.
-pub const KEPT: usize = ROW - 4 - 2;
+pub const KEPT: usize = ROW - STEERED.end + STEERED.start - 2;
 
 pub const CONTACT_NORMAL: usize = 0;
 pub const CONTACT_POINT: usize = 3;
@@ -43,19 +43,27 @@ pub const MAX_FORCE: usize = 36;
 pub const ROLL_INFLUENCE: usize = 37;
 pub const ENGINE: usize = 38;
 pub const BRAKE: usize = 39;
+/// The rotation that was handed in.
 pub const STEERING: usize = 40;
-pub const RELATIVE_VELOCITY: usize = 44;
-pub const CLIPPED_INVERSE: usize = 45;
-pub const ROTATION: usize = 46;
-pub const DELTA_ROTATION: usize = 47;
-pub const SUSPENSION_FORCE: usize = 48;
-pub const FORWARD_IMPULSE: usize = 49;
-pub const SIDE_IMPULSE: usize = 50;
-pub const SKID: usize = 51;
+/// The angle that was.
+pub const ANGLE: usize = 44;
+/// 0 where the rotation counts; any other number where the angle does.
+pub const KIND: usize = 45;
+pub const RELATIVE_VELOCITY: usize = 46;
+pub const CLIPPED_INVERSE: usize = 47;
+pub const ROTATION: usize = 48;
+pub const DELTA_ROTATION: usize = 49;
+pub const SUSPENSION_FORCE: usize = 50;
+pub const FORWARD_IMPULSE: usize = 51;
+pub const SIDE_IMPULSE: usize = 52;
+pub const SKID: usize = 53;
 /// 1 where rule 7's axis fell back to zero in the last drive, else 0.
-pub const NO_AXIS: usize = 52;
+pub const NO_AXIS: usize = 54;
 /// The same of its forward direction.
-pub const NO_FORWARD: usize = 53;
+pub const NO_FORWARD: usize = 55;
+
+/// How a wheel is steered: rotation, angle and kind.
+pub const STEERED: Range<usize> = STEERING..RELATIVE_VELOCITY;
 
 /// What an aim works out in a row: hard point, centre, world direction and world axle.
 pub const TRANSFORMS: Range<usize> = HARD_POINT..CONNECTION_POINT;
@@ -71,30 +79,40 @@ impl Row {
         Vector::new(self.0[place], self.0[place + 1], self.0[place + 2])
     }
 
-    pub fn steering(&self) -> Rotation {
+    /// The last control given. Either zero says that it was a rotation.
+    pub fn steering(&self) -> Steering {
         let [x, y, z, w] = [0, 1, 2, 3].map(|part| self.0[STEERING + part]);
-        Rotation::new(x, y, z, w)
+        if self.0[KIND] == 0.0 {
+            Steering::Rotation(Rotation::new(x, y, z, w))
+        } else {
+            Steering::Angle(self.0[ANGLE])
+        }
     }
 
-    pub fn set_steering(&mut self, steering: Rotation) {
-        self.0[STEERING..RELATIVE_VELOCITY].copy_from_slice(&steering.parts());
+    /// What is not given of the two is left as in a new wheel.
+    pub fn set_steering(&mut self, steering: Steering) {
+        let (rotation, angle, kind) = match steering {
+            Steering::Rotation(rotation) => (rotation, 0.0, 0.0),
+            Steering::Angle(angle) => (Rotation::IDENTITY, angle, 1.0),
+        };
+        self.0[STEERING..ANGLE].copy_from_slice(&rotation.parts());
+        self.0[ANGLE] = angle;
+        self.0[KIND] = kind;
     }
 
     /// The row without its steering and what fell back.
     pub fn kept(&self) -> [Real; KEPT] {
         let mut numbers = [0.0; KEPT];
-        numbers[..STEERING].copy_from_slice(&self.0[..STEERING]);
-        numbers[STEERING..].copy_from_slice(&self.0[RELATIVE_VELOCITY..NO_AXIS]);
+        numbers[..STEERED.start].copy_from_slice(&self.0[..STEERED.start]);
+        numbers[STEERED.start..].copy_from_slice(&self.0[STEERED.end..NO_AXIS]);
         numbers
     }
 
-    /// The row of these numbers and this steering, in which nothing fell back.
-    pub fn from_kept(numbers: [Real; KEPT], steering: Rotation) -> Row {
-        let mut row = Row::ZERO;
-        row.0[..STEERING].copy_from_slice(&numbers[..STEERING]);
-        row.0[RELATIVE_VELOCITY..NO_AXIS].copy_from_slice(&numbers[STEERING..]);
-        row.set_steering(steering);
-        row
+    /// The row with these numbers in place of its own; its steering and what fell back stay.
+    pub fn with_kept(mut self, numbers: [Real; KEPT]) -> Row {
+        self.0[..STEERED.start].copy_from_slice(&numbers[..STEERED.start]);
+        self.0[STEERED.end..NO_AXIS].copy_from_slice(&numbers[STEERED.start..]);
+        self
     }
 
     /// Whether the axis fell back, and whether the forward direction did: any number but 0 is a yes.

@@ -10,7 +10,7 @@ use crate::dynamics::{
 };
 use crate::geometry::{AnsweredShape, Collider, ColliderSet, Ray, RayIntersection};
 use crate::handed::{Chassis, GroundBody, Hit, NewWheel, RayAnswer};
-use crate::math::{line_up_steering, Inertia, Pose, Real, Rotation, Vector};
+use crate::math::{line_up_steering, Inertia, Pose, Real, Rotation, Steering, Vector};
 use crate::pipeline::{Casts, QueryPipelineMut};
 use crate::row::{self, Row, KEPT};
 
@@ -69,6 +69,7 @@ macro_rules! runner {
                 for (number, stored) in wheel.kept().into_iter().zip(row.kept()) {
                     *number = stored;
                 }
+                wheel.steering = asked_for(row.steering());
             }
             let mut bodies = bodies_of(step);
             let colliders = colliders_of(step);
@@ -81,7 +82,7 @@ macro_rules! runner {
             let kept = |mut wheel: $copy::Wheel| wheel.kept().map(|number| *number);
             let row = |place: usize| {
                 let numbers = kept(vehicle.wheels()[place]);
-                let row = Row::from_kept(numbers, step.rows[place].steering());
+                let row = step.rows[place].with_kept(numbers);
                 with_fall_backs(row, &step.answers[place], vehicle.directions(place))
             };
             let chassis = &bodies[CHASSIS_HANDLE];
@@ -131,11 +132,21 @@ pub fn new_row(new: &NewWheel) -> Row {
         new.radius,
         &tuning,
     );
-    let mut row = Row::from_kept(wheel.kept().map(|number| *number), Rotation::IDENTITY);
+    let mut row = Row::ZERO.with_kept(wheel.kept().map(|number| *number));
+    row.set_steering(Steering::Rotation(Rotation::IDENTITY));
     if let Some(roll_influence) = new.roll_influence {
         row.0[row::ROLL_INFLUENCE] = roll_influence;
     }
     row
+}
+
+/// What the source multiplies minus the direction by before it asks for a rotation. With 1 it hands over
+/// minus the direction itself, about which an angle turns; a rotation that is kept needs none.
+fn asked_for(steering: Steering) -> Real {
+    match steering {
+        Steering::Rotation(_) => 0.0,
+        Steering::Angle(_) => 1.0,
+    }
 }
 
 /// The row with what fell back in this step: change request 2026-05. The source does not say so, but its

@@ -1,7 +1,7 @@
 //! The scenario stream: numbers in groups of seven bits, and the codes made of them.
 
 use crate::handed::{Chassis, Controls, Drive, GroundBody, Hit, NewWheel, RayAnswer};
-use crate::math::{Real, Vector};
+use crate::math::{Real, Rotation, Steering, Vector};
 use crate::row::{CHASSIS, WHEELS};
 use crate::table::BODIES;
 
@@ -59,11 +59,7 @@ impl<'a> Reader<'a> {
         Ok(match code {
             0 => Code::End,
             1 => Code::Add(self.wheel()?),
-            2 => {
-                let wheel = self.number()?;
-                let controls = self.floats::<{ Controls::NUMBERS }>()?;
-                Code::Controls(wheel, Controls::from_numbers(controls))
-            }
+            2 => self.controls(Self::rotation)?,
             3 => Code::Aim(Chassis::from_numbers(self.floats::<CHASSIS>()?)),
             4 => Code::Drive(self.drive()?),
             5 => Code::Read(self.number()?),
@@ -73,12 +69,33 @@ impl<'a> Reader<'a> {
             }
             8 => Code::ReadSettled(self.number()?),
             9 => Code::ReadAll(self.number()?),
+            10 => self.controls(Self::angle)?,
             _ => return Err(Broken),
         })
     }
 
     fn wheel(&mut self) -> Result<NewWheel, Broken> {
         self.floats::<{ NewWheel::NUMBERS }>().map(NewWheel::from_numbers)
+    }
+
+    /// Controls, whose steering `steering` reads.
+    fn controls(
+        &mut self,
+        steering: fn(&mut Self) -> Result<Steering, Broken>,
+    ) -> Result<Code, Broken> {
+        let wheel = self.number()?;
+        let [engine, brake] = self.floats::<2>()?;
+        let steering = steering(self)?;
+        Ok(Code::Controls(wheel, Controls { engine, brake, steering }))
+    }
+
+    fn rotation(&mut self) -> Result<Steering, Broken> {
+        let [x, y, z, w] = self.floats::<4>()?;
+        Ok(Steering::Rotation(Rotation::new(x, y, z, w)))
+    }
+
+    fn angle(&mut self) -> Result<Steering, Broken> {
+        self.float().map(Steering::Angle)
     }
 
     fn drive(&mut self) -> Result<Drive, Broken> {
@@ -224,6 +241,14 @@ pub fn add_code(wheel: &NewWheel) -> u32 {
     }
 }
 
+/// The code of controls: change request 2026-11 has one for an angle.
+pub fn controls_code(controls: &Controls) -> u32 {
+    match controls.steering {
+        Steering::Rotation(_) => 2,
+        Steering::Angle(_) => 10,
+    }
+}
+
 impl Code {
     /// The numbers of this code in the order of the stream.
     pub fn tokens(&self) -> Vec<Token> {
@@ -235,8 +260,8 @@ impl Code {
                 put_floats(&mut tokens, &wheel.handed_in());
             }
             Code::Controls(wheel, controls) => {
-                tokens.extend([Token::Whole(2), Token::Whole(*wheel)]);
-                put_floats(&mut tokens, &controls.numbers());
+                tokens.extend([controls_code(controls), *wheel].map(Token::Whole));
+                put_floats(&mut tokens, &controls.handed_in());
             }
             Code::Aim(chassis) => {
                 tokens.push(Token::Whole(3));

@@ -1,15 +1,16 @@
 //! The calls of document 01 over a lent table, with their refusals, written from 01's text.
 //!
 //! A refusal answers its number, zeros elsewhere, and changes nothing. The tests stand in 01's
-//! order, with that of change request 2026-03: 1, 3, 4, 5, 6, 2, 12, 10, 7, 8. The steps themselves
-//! come from running the Rust source.
+//! order, with those of change requests 2026-03 and 2026-11: 1, 3, 4, 5, 6, 2, 12, 10, 17, 7, 8. The
+//! steps themselves come from running the Rust source.
 
 use crate::geometry::Ray;
 use crate::handed::{Chassis, Controls, Drive, Hit, NewWheel, RayAnswer};
-use crate::math::{Real, Vector};
+use crate::math::{turn_about, Real, Rotation, Steering, Vector};
 use crate::ranges::{
     body_in_range, chassis_in_range, controls_in_range, dt_in_range, lies_between,
-    may_be_handed_in, may_be_stored, new_wheel_in_range, normals_in_range, row_in_range,
+    may_be_handed_in, may_be_stored, new_wheel_in_range, normals_in_range, rotation_in_range,
+    row_in_range,
 };
 use crate::row::{self, Row, CHASSIS, ROW, TABLE, WHEELS};
 use crate::step::{self, Outcome, Step};
@@ -37,6 +38,8 @@ pub const MALFORMED: u32 = 9;
 pub const OUT_OF_RANGE: u32 = 10;
 /// A normal of the wrong length.
 pub const BAD_NORMAL: u32 = 12;
+/// An angle with no axis to turn about, or whose rotation lies outside the band.
+pub const BAD_TURN: u32 = 17;
 
 /// Ground bodies that a drive may list.
 pub const BODIES: usize = 64;
@@ -64,6 +67,45 @@ pub struct Aimed {
     pub speed: Real,
     /// Each wheel's hard point and ray.
     pub rays: Vec<(Vector, Vector)>,
+    /// No part of the answer: for the tally, of an aim that got as far as refusal 17.
+    pub steers: Vec<Steer>,
+}
+
+/// What an aim made of a wheel's angle.
+#[derive(Copy, Clone, Debug, PartialEq)]
+pub struct Steer {
+    pub wheel: u32,
+    pub angle: Real,
+    /// The world direction that the aim worked out.
+    pub direction: Vector,
+    /// Minus the direction, normalised, and the rotation about it.
+    pub axis: Vector,
+    pub rotation: Rotation,
+}
+
+impl Steer {
+    /// Nothing for a wheel that is steered by rotation.
+    fn of((wheel, row): (usize, &Row)) -> Option<Steer> {
+        let Steering::Angle(angle) = row.steering() else { return None };
+        let direction = row.vector(row::WORLD_DIRECTION);
+        let axis = (-direction).normalize_or_zero();
+        let rotation = turn_about(-direction, angle);
+        Some(Steer { wheel: wheel as u32, angle, direction, axis, rotation })
+    }
+
+    /// The axis is zero exactly where the normalising fell back, as of rule 7's directions.
+    pub fn fell_back(&self) -> bool {
+        self.axis == Vector::ZERO
+    }
+
+    pub fn in_band(&self) -> bool {
+        rotation_in_range(self.rotation)
+    }
+
+    /// Refusal 17 has nothing against it.
+    pub fn is_fit(&self) -> bool {
+        !self.fell_back() && self.in_band()
+    }
 }
 
 /// What a drive answers, and how it went for each wheel.
@@ -183,13 +225,18 @@ impl Table {
         let Some(aimed) = self.transforms(&rows, chassis) else {
             return refused(BAD_RESULT);
         };
+        let steers: Vec<Steer> = aimed.rows.iter().enumerate().filter_map(Steer::of).collect();
+        if !steers.iter().all(Steer::is_fit) {
+            return Aimed { steers, ..refused(BAD_TURN) };
+        }
         let new_rows: Vec<Row> = rows.iter().zip(&aimed.rows).map(with_transforms).collect();
         if !new_rows.iter().all(row_may_be_stored) {
-            return refused(BAD_RESULT);
+            return Aimed { steers, ..refused(BAD_RESULT) };
         }
         self.store(chassis, &new_rows, MARK_AIMED);
         let ray = |ray: &Ray| (ray.origin, ray.dir);
-        Aimed { answer: ACCEPTED, speed: aimed.speed, rays: aimed.rays.iter().map(ray).collect() }
+        let rays = aimed.rays.iter().map(ray).collect();
+        Aimed { answer: ACCEPTED, speed: aimed.speed, rays, steers }
     }
 
     /// Drive: works on the kept chassis and stores its new velocities; mark driven.
@@ -282,7 +329,7 @@ impl Table {
             MISSHAPEN
         } else if wheel >= self.count {
             NO_SUCH_WHEEL
-        } else if !self.numbers_are_fit(&controls.numbers()) {
+        } else if !self.numbers_are_fit(&controls.handed_in()) {
             BAD_NUMBER
         } else if !controls_in_range(controls) {
             OUT_OF_RANGE

@@ -42,7 +42,7 @@ fn scenarios_one_after_another() {
 #[test]
 fn unknown_codes_are_shown() {
     assert_eq!(printed(&[0x07]), "vehicle 1\n7 9\n");
-    assert_eq!(printed(&[0x0A, 0x00]), "vehicle 1\n10 9\n");
+    assert_eq!(printed(&[0x0B, 0x00]), "vehicle 1\n11 9\n");
     assert_eq!(printed(&[0xFF, 0xFF, 0xFF, 0xFF, 0x0F]), "vehicle 1\n4294967295 9\n");
 }
 
@@ -93,6 +93,7 @@ fn codes_read_back() {
     let codes = [
         Code::Add(bench::wheel()),
         Code::Controls(7, bench::controls()),
+        Code::Controls(7, bench::by_angle(-0.5)),
         Code::Aim(bench::chassis()),
         Code::Drive(drive),
         Code::Read(300),
@@ -143,6 +144,24 @@ fn reads_are_refused_alike() {
         assert_eq!(printed(&[code]), format!("vehicle 1\n{code} 9\n"));
         let too_early = [&one_wheel[..], &[code, 0x00, 0x00]].concat();
         assert_eq!(printed(&too_early), format!("vehicle 1\n1 0\n{code} 5\n0 0\n"));
+    }
+}
+
+/// The fields of code 2 with the angle in place of the rotation: wheel 1, engine 1, brake 0, angle 2.
+#[test]
+fn code_10_has_an_angle() {
+    let code = [0x0A, 0x01, 0x80, 0x80, 0x80, 0xFC, 0x03, 0x00, 0x80, 0x80, 0x80, 0x80, 0x04];
+    let read = Reader::new(&code).code();
+    let controls = vehicle::handed::Controls { engine: 1.0, ..bench::by_angle(2.0) };
+    assert_eq!(read, Ok(Code::Controls(1, controls)));
+    // No wheel 1; with two wheels the control is set, and prints no result.
+    let wheel = bytes_of(&Code::Add(bench::wheel()).tokens());
+    assert_eq!(printed(&[&code[..], &[0]].concat()), "vehicle 1\n10 4\n0 0\n");
+    let set = [&wheel[..], &wheel, &code, &[0]].concat();
+    assert_eq!(printed(&set), "vehicle 1\n1 0\n1 0\n10 0\n0 0\n");
+    // Cut anywhere behind the code it is malformed.
+    for end in 1..code.len() {
+        assert_eq!(printed(&code[..end]), "vehicle 1\n10 9\n");
     }
 }
 

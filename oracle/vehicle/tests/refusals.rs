@@ -2,7 +2,7 @@
 
 mod bench;
 
-use bench::{aimed, body, chassis, controls, drive, hit, wheel, UP};
+use bench::{aimed, body, by_angle, chassis, controls, drive, hit, wheel, UP};
 use vehicle::handed::{Chassis, Controls, Drive, GroundBody, Hit, NewWheel};
 use vehicle::math::{Pose, Rotation, Vector};
 use vehicle::row;
@@ -247,7 +247,7 @@ fn normals_of_the_wrong_length() {
         assert_eq!(aimed().drive(&drive(&[with(end)])).answer, ACCEPTED);
     }
     // A step past either end, length two, zero: refused as either normal.
-    let past = [[0.03125, 1.0, 0.0003], [0.25, 0.967_741_37, 0.0]];
+    let past = [[0.03125, 1.0, 0.0003], [0.25, 0.967_741_4, 0.0]];
     for past in past.map(vector).into_iter().chain([UP * 2.0, Vector::ZERO]) {
         assert_eq!(refuse_drive(&drive(&[of(past)])), 12, "{past:?}");
         assert_eq!(refuse_drive(&drive(&[with(past)])), 12, "{past:?}");
@@ -334,6 +334,153 @@ fn ranges_of_an_add() {
     for roll in [above(MOST), -above(MOST), f32::NAN, f32::INFINITY] {
         assert_eq!(rolled(roll), 2, "{roll}");
     }
+}
+
+#[test]
+fn ranges_of_an_angle() {
+    let answer = |angle: f32| aimed().set_controls(0, &by_angle(angle));
+    for angle in [0.0, -0.0, f32::from_bits(1), 1.0, 2.0, -2.0] {
+        assert_eq!(answer(angle), ACCEPTED, "{angle}");
+    }
+    for angle in [above(2.0), -above(2.0), 3.0, -3.0, MOST, -MOST] {
+        assert_eq!(answer(angle), 10, "{angle}");
+    }
+    for angle in [above(MOST), -above(MOST), NAN, f32::INFINITY, f32::NEG_INFINITY] {
+        assert_eq!(answer(angle), 2, "{angle}");
+    }
+    // The brake is tested beside an angle as beside a rotation, and 4 comes first.
+    assert_eq!(aimed().set_controls(0, &Controls { brake: -1.0, ..by_angle(0.0) }), 10);
+    assert_eq!(aimed().set_controls(0, &Controls { engine: NAN, ..by_angle(3.0) }), 2);
+    assert_eq!(aimed().set_controls(1, &by_angle(NAN)), 4);
+    assert_eq!(unchanged(&mut aimed(), |table| table.set_controls(0, &by_angle(3.0))), 10);
+    // An aimed mark becomes new, as by a rotation.
+    let mut table = aimed();
+    assert_eq!((table.set_controls(0, &by_angle(2.0)), table.mark), (ACCEPTED, MARK_NEW));
+}
+
+/// Of the stored rotation and angle the one that counts is held to its range, the other to 2 alone.
+#[test]
+fn a_stored_angle() {
+    let answers = |rotation: [f32; 4], angle: f32, kind: f32| {
+        let mut table = aimed();
+        let steered = row::CHASSIS + row::STEERED.start;
+        table.numbers[steered..steered + 4].copy_from_slice(&rotation);
+        table.numbers[steered + 4..steered + 6].copy_from_slice(&[angle, kind]);
+        let [_, _, aim, drive, _] = all_calls(&mut table);
+        [aim, drive]
+    };
+    let unit = [0.0, 0.0, 0.0, 1.0];
+    for kind in [1.0, -3.5, f32::from_bits(1), MOST_STORED] {
+        for angle in [2.0, -2.0, 0.0] {
+            assert_eq!(answers(unit, angle, kind), [0; 2]);
+            assert_eq!(answers([MOST_STORED; 4], angle, kind), [0; 2]);
+            assert_eq!(answers([0.0; 4], angle, kind), [0; 2]);
+        }
+        for angle in [above(2.0), -above(2.0), MOST_STORED] {
+            assert_eq!(answers(unit, angle, kind), [10; 2]);
+        }
+    }
+    for kind in [0.0, -0.0] {
+        assert_eq!(answers(unit, MOST_STORED, kind), [0; 2]);
+        assert_eq!(answers(unit, -above(2.0), kind), [0; 2]);
+        assert_eq!(answers([0.0; 4], 1.0, kind), [10; 2]);
+    }
+}
+
+/// The answer of an aim of one wheel with this direction, steered by this angle.
+fn aim_along(direction: Vector, angle: f32) -> u32 {
+    let mut table = Table::new();
+    assert_eq!(table.add_wheel(&NewWheel { direction, ..wheel() }), ACCEPTED);
+    assert_eq!(table.set_controls(0, &by_angle(angle)), ACCEPTED);
+    let before = bits(&table);
+    let answer = table.aim(&chassis()).answer;
+    assert_eq!(bits(&table) == before, answer != ACCEPTED);
+    answer
+}
+
+/// Zero, or so short that its squares underflow: refused whatever the angle, also one that turns nothing.
+#[test]
+fn an_angle_without_an_axis() {
+    let last = f32::from_bits((127 - 75) << 23);
+    for angle in [0.0, -0.0, 0.001, 1.0, -2.0] {
+        assert_eq!(aim_along(Vector::ZERO, angle), 17);
+        for size in [1e-30, f32::from_bits(1), last] {
+            assert_eq!(aim_along(Vector::new(size, -size, 0.0), angle), 17, "{size:e}");
+        }
+    }
+    // The square of the next float is not zero: with no turn to make that is enough.
+    assert_eq!(aim_along(Vector::new(0.0, above(last), 0.0), 0.0), ACCEPTED);
+}
+
+/// The square of 1.2 · 2^-75, 0.72 of the smallest float, is rounded up to it. The axis comes out as the
+/// root of 0.72, the rotation's sum of squares as 1 − 0.28 · sine²: below the band where the sine of the
+/// half angle is above the root of 2^-10/0.28, 0.059. The square of 1.7 · 2^-75 is 1.445 of it and is
+/// rounded down: 1 + 0.445 · sine², above the band from 0.047 on.
+#[test]
+fn a_rotation_outside_the_band() {
+    let unit = f32::from_bits((127 - 75) << 23);
+    for (part, inside, outside) in [(1.2, 0.117, 0.119), (1.7, 0.093, 0.095)] {
+        for direction in [Vector::new(part * unit, 0.0, 0.0), Vector::new(0.0, 0.0, -part * unit)] {
+            for sign in [1.0, -1.0] {
+                assert_eq!(aim_along(direction, sign * inside), ACCEPTED, "{part}");
+                assert_eq!(aim_along(direction, sign * outside), 17, "{part}");
+            }
+        }
+    }
+    // Such a wheel may be steered by any rotation.
+    let mut table = Table::new();
+    table.add_wheel(&NewWheel { direction: Vector::new(1.2 * unit, 0.0, 0.0), ..wheel() });
+    assert_eq!(table.aim(&chassis()).answer, ACCEPTED);
+}
+
+/// 17 looks at every wheel steered by angle and at no other, and a drive never gives it.
+#[test]
+fn only_aims_of_wheels_steered_by_angle() {
+    let mut table = Table::new();
+    let flat = NewWheel { direction: Vector::ZERO, ..wheel() };
+    for new in [wheel(), flat, wheel(), flat] {
+        assert_eq!(table.add_wheel(&new), ACCEPTED);
+    }
+    for turned in [0, 2] {
+        assert_eq!(table.set_controls(turned, &by_angle(1.0)), ACCEPTED);
+    }
+    assert_eq!(table.aim(&chassis()).answer, ACCEPTED);
+    assert_eq!(table.drive(&drive(&[hit(); 4])).answer, ACCEPTED);
+    for last in [1, 3] {
+        let mut table = table.clone();
+        assert_eq!(table.set_controls(last, &by_angle(0.0)), ACCEPTED);
+        assert_eq!(unchanged(&mut table, |table| table.aim(&chassis()).answer), 17);
+    }
+    // A stored table may be aimed with a wheel that no aim would let through. It is the direction of the
+    // next aim that counts, not the one that is stored.
+    for (flat, answer) in [(row::DIRECTION + 1, 17), (row::WORLD_DIRECTION + 1, ACCEPTED)] {
+        let mut table = aimed();
+        for (place, number) in [(row::ANGLE, 1.0), (row::KIND, 1.0), (flat, 0.0)] {
+            table.numbers[row::CHASSIS + place] = number;
+        }
+        assert_eq!(table.clone().aim(&chassis()).answer, answer);
+        assert_eq!(table.drive(&drive(&[hit()])).answer, ACCEPTED);
+    }
+    // A row that is not used is not looked at.
+    let mut table = aimed();
+    table.numbers[row::CHASSIS + row::ROW + row::KIND] = 1.0;
+    assert_eq!(table.aim(&chassis()).answer, ACCEPTED);
+}
+
+/// It is the direction of this aim that counts. A chassis rotation within its band turns and scales it: the
+/// square of 2^-75 underflows, that of 2^-75 · 1.0004 does not.
+#[test]
+fn the_direction_of_this_aim_counts() {
+    let mut table = Table::new();
+    let last = f32::from_bits((127 - 75) << 23);
+    table.add_wheel(&NewWheel { direction: Vector::new(0.0, -last, 0.0), ..wheel() });
+    table.set_controls(0, &by_angle(0.0));
+    let longer = Rotation::new(0.0, 0.0, 0.0, 1.0002);
+    let pose = Pose { rotation: longer, ..Pose::IDENTITY };
+    assert_eq!(table.aim(&chassis()).answer, 17);
+    assert_eq!(table.aim(&Chassis { pose, ..chassis() }).answer, ACCEPTED);
+    // What that one stored does not count either.
+    assert_eq!(unchanged(&mut table, |table| table.aim(&chassis()).answer), 17);
 }
 
 #[test]
@@ -449,6 +596,34 @@ fn the_order() {
     assert_eq!(table.drive(&worst).answer, 12);
     worst.answers[0] = Some(hit());
     assert_eq!(table.drive(&worst).answer, 10);
+}
+
+/// Of an aim: 2, then 10 of any kind and of any wheel, then 17 of any wheel, then 8.
+#[test]
+fn the_order_of_an_aim() {
+    let mut table = Table::new();
+    for direction in [Vector::ZERO, -UP] {
+        assert_eq!(table.add_wheel(&NewWheel { direction, ..wheel() }), ACCEPTED);
+    }
+    assert_eq!(table.set_controls(0, &by_angle(1.0)), ACCEPTED);
+    // The second wheel's centre would lie at −2^40 · 2: 8, but for the first wheel.
+    let second = row::CHASSIS + row::ROW;
+    table.numbers[second + row::DIRECTION + 1] = -2.0;
+    table.numbers[second + row::SUSPENSION_LENGTH] = MOST_STORED;
+    assert_eq!(table.aim(&chassis()).answer, 17);
+    let mut other = table.clone();
+    assert_eq!(other.set_controls(0, &controls()), ACCEPTED);
+    assert_eq!(other.aim(&chassis()).answer, 8);
+    // 10 of the chassis, of the second wheel's settings and of its angle.
+    assert_eq!(table.aim(&Chassis { inverse_mass: 0.0, ..chassis() }).answer, 10);
+    for (place, number) in [(row::RADIUS, 0.0), (row::STEERING, 1.0), (row::ANGLE, 3.0)] {
+        let mut table = table.clone();
+        table.numbers[second + place] = number;
+        table.numbers[second + row::KIND] = if place == row::ANGLE { 1.0 } else { 0.0 };
+        assert_eq!(table.aim(&chassis()).answer, 10, "place {place}");
+        table.numbers[second + row::ROTATION] = NAN;
+        assert_eq!(table.aim(&chassis()).answer, 2, "place {place}");
+    }
 }
 
 #[test]

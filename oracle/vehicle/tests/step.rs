@@ -2,9 +2,9 @@
 
 mod bench;
 
-use bench::{aimed, body, chassis, controls, drive, hit, row_after, wheel, UP};
+use bench::{aimed, body, by_angle, chassis, controls, drive, hit, row_after, wheel, UP};
 use vehicle::handed::{Chassis, Controls, Drive, GroundBody, Hit, NewWheel};
-use vehicle::math::{Pose, Rotation, Vector};
+use vehicle::math::{cosine, sine, Pose, Rotation, Steering, Vector};
 use vehicle::row::{self, Row};
 use vehicle::step::{run_as_sent, Step};
 use vehicle::table::{Table, ACCEPTED, BAD_RESULT, MARK_AIMED, WRONG_MOMENT};
@@ -71,7 +71,7 @@ fn the_settled_centre_meets_no_bound() {
 fn steering_turns_the_axle_after_the_chassis() {
     let mut table = Table::new();
     table.add_wheel(&wheel());
-    let steering = Rotation::new(0.0, 1.0, 0.0, 0.0);
+    let steering = Steering::Rotation(Rotation::new(0.0, 1.0, 0.0, 0.0));
     table.set_controls(0, &Controls { steering, ..controls() });
     table.aim(&chassis());
     assert_eq!(table.row(0).vector(row::WORLD_AXLE), Vector::new(0.0, 0.0, -1.0));
@@ -414,4 +414,149 @@ fn a_new_wheel_fell_back_nowhere() {
     assert_eq!(table.row(0).0[row::NO_AXIS..], [0.0, 0.0]);
     table.aim(&chassis());
     assert_eq!(table.row(0).0[row::NO_AXIS..], [0.0, 0.0]);
+}
+
+/// The world axle of a wheel with this direction, steered by this angle, its axle along z.
+fn axle_at(direction: Vector, angle: f32) -> Vector {
+    let mut table = Table::new();
+    table.add_wheel(&NewWheel { direction, ..wheel() });
+    assert_eq!(table.set_controls(0, &by_angle(angle)), ACCEPTED);
+    assert_eq!(table.aim(&chassis()).answer, ACCEPTED);
+    table.row(0).vector(row::WORLD_AXLE)
+}
+
+const DOWN: Vector = Vector::new(0.0, -1.0, 0.0);
+
+/// The rotation is about up: b = (0, s, 0). Of v = (0, 0, 1) the formula leaves v · (c·c − s·s), and b × v,
+/// (s, 0, 0), times 2c: z goes to x, a right-handed turn. An angle of 1 has the half angle 0.5.
+#[test]
+fn an_angle_turns_the_axle_about_up() {
+    let (s, c) = (sine(0.5), cosine(0.5));
+    assert_eq!(axle_at(DOWN, 1.0), Vector::new(s * (c * 2.0), 0.0, c * c - s * s));
+    assert_eq!(axle_at(DOWN, -1.0), Vector::new(-s * (c * 2.0), 0.0, c * c - s * s));
+    // The sine and cosine of 1 radian.
+    let near = |one: f32, other: f32| (one - other).abs() < 1.0 / 1_048_576.0;
+    let turned = axle_at(DOWN, 1.0);
+    assert!(near(turned.x, 0.841_471) && near(turned.z, 0.540_302_3), "{turned:?}");
+    // The greatest angle: 2 radians, past the quarter turn.
+    let turned = axle_at(DOWN, 2.0);
+    assert!(near(turned.x, 0.909_297_4) && near(turned.z, -0.416_146_84), "{turned:?}");
+    // About another direction: minus (−1, 0, 0) takes z to −y.
+    let turned = axle_at(Vector::new(-1.0, 0.0, 0.0), 1.0);
+    assert!(near(turned.y, -0.841_471) && near(turned.z, 0.540_302_3), "{turned:?}");
+}
+
+#[test]
+fn either_zero_turns_nothing() {
+    for angle in [0.0, -0.0] {
+        assert_eq!(axle_at(DOWN, angle), Vector::new(0.0, 0.0, 1.0));
+        let mut table = aimed();
+        table.set_controls(0, &by_angle(angle));
+        assert_eq!(table.row(0).0[row::ANGLE].to_bits(), angle.to_bits());
+    }
+}
+
+/// The source would turn twice and four times as far about the longer ones.
+#[test]
+fn a_longer_direction_turns_no_further() {
+    for length in [2.0, 4.0, 0.5, 1_048_576.0] {
+        assert_eq!(axle_at(DOWN * length, 0.5), axle_at(DOWN, 0.5), "{length}");
+    }
+}
+
+/// A half turn about z, (0, 0, 1, 0), takes −y to y and x to −x and leaves z. The axis is then −y, and the
+/// same control turns the axle from z to −x, with nothing set anew.
+#[test]
+fn an_angle_follows_the_chassis() {
+    let mut table = Table::new();
+    table.add_wheel(&wheel());
+    table.set_controls(0, &by_angle(1.0));
+    let rolled = Pose { rotation: Rotation::new(0.0, 0.0, 1.0, 0.0), ..Pose::IDENTITY };
+    let upright = axle_at(DOWN, 1.0);
+    for (pose, x) in
+        [(Pose::IDENTITY, upright.x), (rolled, -upright.x), (Pose::IDENTITY, upright.x)]
+    {
+        assert_eq!(table.aim(&Chassis { pose, ..chassis() }).answer, ACCEPTED);
+        let axle = Vector::new(x, 0.0, upright.z);
+        assert_eq!(table.row(0).vector(row::WORLD_AXLE), axle);
+        // The rotation is made anew at each aim and not stored.
+        assert_eq!(table.row(0).0[row::STEERED], [0.0, 0.0, 0.0, 1.0, 1.0, 1.0]);
+        assert_eq!(table.drive(&drive(&[hit()])).answer, ACCEPTED);
+        assert_eq!(table.read_wheel(0).world_axle, axle);
+    }
+}
+
+/// The row keeps the last control given; of the other it has what a new wheel has.
+#[test]
+fn the_last_control_counts() {
+    let mut table = Table::new();
+    table.add_wheel(&wheel());
+    assert_eq!(table.row(0).0[row::STEERED], [0.0, 0.0, 0.0, 1.0, 0.0, 0.0]);
+    let about = Rotation::new(0.0, 1.0, 0.0, 0.0);
+    let by_rotation = Controls { steering: Steering::Rotation(about), ..controls() };
+    let turned = axle_at(DOWN, 0.5);
+    for _ in 0..2 {
+        table.set_controls(0, &by_rotation);
+        assert_eq!(table.row(0).0[row::STEERED], [0.0, 1.0, 0.0, 0.0, 0.0, 0.0]);
+        table.aim(&chassis());
+        assert_eq!(table.row(0).vector(row::WORLD_AXLE), Vector::new(0.0, 0.0, -1.0));
+        table.set_controls(0, &by_angle(0.5));
+        assert_eq!(table.row(0).0[row::STEERED], [0.0, 0.0, 0.0, 1.0, 0.5, 1.0]);
+        table.aim(&chassis());
+        assert_eq!(table.row(0).vector(row::WORLD_AXLE), turned);
+    }
+}
+
+/// The controls' part of a row has eight numbers: engine, brake, rotation, angle and kind.
+#[test]
+fn a_row_has_two_numbers_more() {
+    assert_eq!((row::ENGINE, row::BRAKE, row::STEERED), (38, 39, 40..46));
+    assert_eq!((row::NO_AXIS, row::ROW, row::TABLE), (54, 56, 26 + 16 * 56));
+}
+
+/// Each wheel is steered by its own: the second by an angle, the others by rotations.
+#[test]
+fn wheels_are_steered_in_their_order() {
+    let mut table = Table::new();
+    (0..3).for_each(|_| assert_eq!(table.add_wheel(&wheel()), ACCEPTED));
+    let about = Steering::Rotation(Rotation::new(0.0, 1.0, 0.0, 0.0));
+    table.set_controls(0, &Controls { steering: about, ..controls() });
+    table.set_controls(1, &by_angle(1.0));
+    table.aim(&chassis());
+    let axles = [0, 1, 2].map(|wheel| table.row(wheel).vector(row::WORLD_AXLE));
+    let ahead = Vector::new(0.0, 0.0, 1.0);
+    assert_eq!(axles, [-ahead, axle_at(DOWN, 1.0), ahead]);
+}
+
+/// Any stored number but 0 says that the angle counts, and aims and drives leave all six as they are.
+#[test]
+fn a_stored_kind_but_0_means_the_angle() {
+    let turned = axle_at(DOWN, 0.5);
+    let ahead = Vector::new(0.0, 0.0, 1.0);
+    let least = f32::from_bits(1);
+    let most = 1_099_511_627_776.0;
+    for (kind, axle) in [
+        (0.0, -ahead),
+        (-0.0, -ahead),
+        (1.0, turned),
+        (-3.5, turned),
+        (least, turned),
+        (-least, turned),
+        (most, turned),
+    ] {
+        let mut table = Table::new();
+        table.add_wheel(&wheel());
+        let mut row: Row = table.row(0);
+        let stored = [0.0, 1.0, 0.0, 0.0, 0.5, kind];
+        row.0[row::STEERED].copy_from_slice(&stored);
+        table.set_row(0, &row);
+        assert_eq!(table.aim(&chassis()).answer, ACCEPTED);
+        assert_eq!(table.row(0).vector(row::WORLD_AXLE), axle, "{kind}");
+        assert_eq!(table.drive(&drive(&[hit()])).answer, ACCEPTED);
+        let kept = table.row(0).0[row::STEERED].to_vec();
+        assert_eq!(
+            kept.iter().map(|part| part.to_bits()).collect::<Vec<_>>(),
+            stored.map(f32::to_bits)
+        );
+    }
 }

@@ -2,7 +2,7 @@
 #![allow(dead_code)]
 
 use vehicle::handed::{Chassis, Controls, Drive, GroundBody, Hit, NewWheel};
-use vehicle::math::{Pose, Rotation, Vector};
+use vehicle::math::{Pose, Rotation, Steering, Vector};
 use vehicle::row::Row;
 use vehicle::table::{Table, ACCEPTED};
 
@@ -29,7 +29,11 @@ pub fn wheel() -> NewWheel {
 }
 
 pub fn controls() -> Controls {
-    Controls { engine: 0.0, brake: 0.0, steering: Rotation::IDENTITY }
+    Controls { engine: 0.0, brake: 0.0, steering: Steering::Rotation(Rotation::IDENTITY) }
+}
+
+pub fn by_angle(angle: f32) -> Controls {
+    Controls { steering: Steering::Angle(angle), ..controls() }
 }
 
 /// At rest at the origin, inverse mass 1, nothing that turns it.
