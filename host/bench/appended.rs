@@ -1,5 +1,5 @@
 
-// Lines of ours, appended by the benchmark's build to its copy of the file above; the file itself stays as sent.
+// Lines of ours, appended by the benchmark's build to its copies of the file above; the file itself stays as sent.
 impl DynamicRayCastVehicleController {
     /// What `update_vehicle` does first, and an aim does: the wheels' transforms, and the signed speed.
     pub fn aim_part(&mut self, chassis: &RigidBody) {

@@ -4,6 +4,7 @@
 //! |---|---|
 //! | `as_sent` | the file in oracle/source, as sent |
 //! | `guarded` | a copy in which a wheel's transforms can be left as they are, as a drive leaves those of its aim: one line differs; `appended.rs` follows it |
+//! | `scaled` | a copy whose `rotation_from_angle` is that of `src/source.rs`, a rotation from a scaled axis: one line differs; `appended.rs` follows it |
 //! | `dynamics`, `geometry`, `math`, `utils` | the oracle's |
 
 use std::path::{Path, PathBuf};
@@ -15,17 +16,26 @@ const APPENDED: &str = "appended.rs";
 const SENT: &str = "            self.update_wheel_transform(chassis, i);\n";
 const GUARDED: &str =
     "            if crate::source::TRANSFORMS.get() { self.update_wheel_transform(chassis, i); }\n";
+const IMPORTED: &str = "use crate::math::{Real, Vector, VectorExt, rotation_from_angle};\n";
+const SCALED: &str = "use crate::{math::{Real, Vector, VectorExt}, source::rotation_from_angle};\n";
 
 fn main() {
     let here =
         PathBuf::from(env::var_os("CARGO_MANIFEST_DIR").expect("cargo sets CARGO_MANIFEST_DIR"));
     let out = PathBuf::from(env::var_os("OUT_DIR").expect("cargo sets OUT_DIR"));
     let text = read(SOURCE);
-    assert_eq!(text.matches(SENT).count(), 1, "this line must stand once in the source: {SENT}");
-    let guarded = out.join("guarded.rs");
-    fs::write(&guarded, text.replace(SENT, GUARDED) + &read(APPENDED))
-        .expect("OUT_DIR can be written");
-    let mut modules = module("as_sent", &here.join(SOURCE)) + &module("guarded", &guarded);
+    let mut modules = module("as_sent", &here.join(SOURCE));
+    for (name, sent, changed) in [("guarded", SENT, GUARDED), ("scaled", IMPORTED, SCALED)] {
+        assert_eq!(
+            text.matches(sent).count(),
+            1,
+            "this line must stand once in the source: {sent}"
+        );
+        let copy = out.join(name).with_extension("rs");
+        fs::write(&copy, text.replace(sent, changed) + &read(APPENDED))
+            .expect("OUT_DIR can be written");
+        modules += &module(name, &copy);
+    }
     for name in ["dynamics", "geometry", "math", "utils"] {
         let file = format!("{ARITHMETIC}/{name}.rs");
         println!("cargo::rerun-if-changed={file}");

@@ -25,6 +25,16 @@ static inline uint32_t set_controls(struct car *car, uint32_t wheel, float engin
     return vehicle_set_controls(car->table, VEHICLE_TABLE_LEN, car->whole, VEHICLE_WHOLE_LEN, wheel, controls, VEHICLE_CONTROLS_LEN);
 }
 
+/* Steers by an angle. */
+static inline uint32_t steer(struct car *car, uint32_t wheel, float engine, float brake, float angle)
+{
+    float controls[VEHICLE_CONTROLS_BY_ANGLE_LEN];
+    controls[0] = engine;
+    controls[1] = brake;
+    controls[2] = angle;
+    return vehicle_set_controls_by_angle(car->table, VEHICLE_TABLE_LEN, car->whole, VEHICLE_WHOLE_LEN, wheel, controls, VEHICLE_CONTROLS_BY_ANGLE_LEN);
+}
+
 static inline uint32_t read_wheel(const struct car *car, uint32_t wheel, float tyre[VEHICLE_READ_LEN])
 {
     return vehicle_read_wheel(car->table, VEHICLE_TABLE_LEN, car->whole, VEHICLE_WHOLE_LEN, wheel, tyre, VEHICLE_READ_LEN);

@@ -17,15 +17,15 @@
 
 enum { WHEELS = 2, BODIES = 2, PLACES = 7 };
 
-enum array { TABLE, WHOLE, SETTINGS, CONTROLS, CHASSIS, SIGHTS, BODY, DYNAMIC, KINDS, NAMED, RAYS, DRIVEN, TYRE, ARRAYS };
-enum call { SET_UP, ADD, SET_CONTROLS, AIM, DRIVE, READ, CALLS };
+enum array { TABLE, WHOLE, SETTINGS, CONTROLS, BY_ANGLE, CHASSIS, SIGHTS, BODY, DYNAMIC, KINDS, NAMED, RAYS, DRIVEN, TYRE, ARRAYS };
+enum call { SET_UP, ADD, SET_CONTROLS, SET_BY_ANGLE, AIM, DRIVE, READ, CALLS };
 
 static const size_t right[ARRAYS] = {
-    VEHICLE_TABLE_LEN, VEHICLE_WHOLE_LEN, VEHICLE_SETTINGS_LEN, VEHICLE_CONTROLS_LEN, VEHICLE_CHASSIS_LEN, VEHICLE_AIM_LEN, BODIES * VEHICLE_BODY_LEN, BODIES, WHEELS, WHEELS, WHEELS * VEHICLE_RAY_LEN, VEHICLE_DRIVE_LEN, VEHICLE_READ_LEN,
+    VEHICLE_TABLE_LEN, VEHICLE_WHOLE_LEN, VEHICLE_SETTINGS_LEN, VEHICLE_CONTROLS_LEN, VEHICLE_CONTROLS_BY_ANGLE_LEN, VEHICLE_CHASSIS_LEN, VEHICLE_AIM_LEN, BODIES * VEHICLE_BODY_LEN, BODIES, WHEELS, WHEELS, WHEELS * VEHICLE_RAY_LEN, VEHICLE_DRIVE_LEN, VEHICLE_READ_LEN,
 };
 
 static const int takes[CALLS][ARRAYS] = {
-    {1, 1, 0, 0, 0, 0, 0, 0, 0, 0, 0, 0, 0}, {1, 1, 1, 0, 0, 0, 0, 0, 0, 0, 0, 0, 0}, {1, 1, 0, 1, 0, 0, 0, 0, 0, 0, 0, 0, 0}, {1, 1, 0, 0, 1, 1, 0, 0, 0, 0, 0, 0, 0}, {1, 1, 0, 0, 0, 0, 1, 1, 1, 1, 1, 1, 0}, {1, 1, 0, 0, 0, 0, 0, 0, 0, 0, 0, 0, 1},
+    {1, 1, 0, 0, 0, 0, 0, 0, 0, 0, 0, 0, 0, 0}, {1, 1, 1, 0, 0, 0, 0, 0, 0, 0, 0, 0, 0, 0}, {1, 1, 0, 1, 0, 0, 0, 0, 0, 0, 0, 0, 0, 0}, {1, 1, 0, 0, 1, 0, 0, 0, 0, 0, 0, 0, 0, 0}, {1, 1, 0, 0, 0, 1, 1, 0, 0, 0, 0, 0, 0, 0}, {1, 1, 0, 0, 0, 0, 0, 1, 1, 1, 1, 1, 1, 0}, {1, 1, 0, 0, 0, 0, 0, 0, 0, 0, 0, 0, 0, 1},
 };
 
 /* What is in the arrays before a call: whole numbers and floats are both four bytes. */
@@ -76,6 +76,8 @@ static uint32_t make(enum call call, void *const at[ARRAYS], const size_t n[ARRA
         return vehicle_add_wheel(table, n[TABLE], whole, n[WHOLE], (const float *)at[SETTINGS], n[SETTINGS]);
     case SET_CONTROLS:
         return vehicle_set_controls(table, n[TABLE], whole, n[WHOLE], 0, (const float *)at[CONTROLS], n[CONTROLS]);
+    case SET_BY_ANGLE:
+        return vehicle_set_controls_by_angle(table, n[TABLE], whole, n[WHOLE], 1, (const float *)at[BY_ANGLE], n[BY_ANGLE]);
     case AIM:
         return vehicle_aim(table, n[TABLE], whole, n[WHOLE], (const float *)at[CHASSIS], n[CHASSIS], (float *)at[SIGHTS], n[SIGHTS]);
     case DRIVE:
@@ -117,13 +119,14 @@ static void fill(enum array array, const float *numbers)
 static void fill_all(void)
 {
     static const float settings[] = {1, 0, 1, 0, -1, 0, 0, 0, 1, 1, 1, 8, 2, 2, 0.5f, 1, 0.3125f, 1024, VEHICLE_ROLL_INFLUENCE};
-    static const float controls[] = {12, 3, 0, 0, 0, 1};
+    static const float controls[] = {12, 3, 0, 0, 0, 1}, by_angle[] = {12, 3, 0.5f};
     static const float chassis[] = {0, 0, 0, 0, 0, 0, 1, 0, 0, 0, 12, 0, 5, 0, 0, 0, 0.25f, 0.25f, 0.25f, 0.25f, 0, 0, 0, 0, 0, 0};
     static const float bodies[BODIES * VEHICLE_BODY_LEN] = {0};
     static const float rays[] = {0.75f, 0, 1, 0, 0, -1, 0, 0.5f, 0, 1, 0, 0, -1, 0};
     static const uint32_t dynamic[] = {1, 0}, kinds[] = {VEHICLE_HIT, VEHICLE_HIT_UP}, named[] = {1, 2};
     fill(SETTINGS, settings);
     fill(CONTROLS, controls);
+    fill(BY_ANGLE, by_angle);
     fill(CHASSIS, chassis);
     fill(BODY, bodies);
     fill(RAYS, rays);
@@ -168,7 +171,7 @@ static int sweep(enum call call)
 
 int main(void)
 {
-    static const enum call calls[] = {SET_UP, ADD, ADD, SET_CONTROLS, AIM, DRIVE, READ};
+    static const enum call calls[] = {SET_UP, ADD, ADD, SET_CONTROLS, SET_BY_ANGLE, AIM, DRIVE, READ};
     int swept = 0;
     size_t i;
     fill_all();

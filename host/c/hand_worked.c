@@ -1,8 +1,9 @@
-/* A small car through set-up, aim, drive and read, tyres without a direction, and each refusal that a call can give: 1, 3, 4, 5, 6, 2, 12, 10,
- * 7 and 8.
+/* A small car through set-up, aim, drive and read, tyres without a direction, wheels steered by an angle, and each refusal that a call can
+ * give: 1, 3, 4, 5, 6, 2, 12, 10, 17, 7 and 8.
  *
  * It prints lines: a name, the number that the call answered, and each result as eight hex digits. host/run holds them to hand_worked.lines.
- * Those are worked out by hand from document 01, for which the car's numbers are chosen, and never taken from what a program prints. */
+ * Those are worked out by hand from document 01 and, for sine and cosine, from crates/angle/specs/Angle.antt; the car's numbers are chosen
+ * for that, and no line is ever taken from what a program prints. */
 #include <math.h>
 #include <stdio.h>
 #include <string.h>
@@ -274,6 +275,86 @@ static void no_suspension(void)
     odd_frame(&car, VEHICLE_HIT, 0, 0);
 }
 
+/* ---- Wheels steered by an angle. ---- */
+
+enum { AXLE_READ = 6 };
+
+/* Each number of a rotation that takes x to y, y to z and z to x; nothing is rounded. */
+static const float third = 0.5f;
+
+/* An aim of a chassis that stands, turned by that rotation or not, a drive in the air, and each wheel's axle. */
+static void show_axles(struct car *car, const char *name, int turned)
+{
+    float chassis[VEHICLE_CHASSIS_LEN], sights[VEHICLE_AIM_LEN], driven[VEHICLE_DRIVE_LEN], tyre[VEHICLE_READ_LEN] = {0};
+    uint32_t wheel, i;
+    memcpy(chassis, standing, sizeof chassis);
+    for (i = 0; turned && i < 4; i++)
+        chassis[ROTATION + i] = third;
+    aim(car, chassis, sights);
+    drive(car, VEHICLE_NOTHING, car->whole[0], 0, driven);
+    for (wheel = 0; wheel < car->whole[0]; wheel++) {
+        show(name, read_wheel(car, wheel, tyre));
+        numbers(tyre + AXLE_READ, 3);
+        putchar('\n');
+    }
+}
+
+/* Two wheels with axles along z whose suspensions hang down, one by a direction of length two: minus that, made of length one, is the same,
+ * (0, 1, 0), and so both axles are the same in every line. Unit below is 2^-30, in which the sums of sine and cosine are taken, each quotient
+ * cut to a whole number; a step is 2^-24, 64 units, of a float below 1. The rotation is (0, s, 0, c), which takes (0, 0, 1) to
+ * (s * 2c, 0, c * c - s * s), each operation rounded.
+ * Angle 0: s is 0 and c is 1.
+ * Angle 2^-10: the half angle h is 2^-11, and its square 256 units. The cosine is 1 less 256 / 2, or 127 units since what is taken half of is
+ * a trifle less: rounded, c is 1 - 2^-23. The sine is h times 1 less 256 / 6, 42 units: rounded, s is h * (1 - 2^-24). Then c * c is
+ * 1 - 2^-22, s * s is 2^-22 * (1 - 2^-23), and the one less the other 1 - 2^-21, all rounded. s * 2c is 2^-10 * (1 - 3 * 2^-24), rounded.
+ * Angle -2^-10: -s in place of s. The axle turns to the other side.
+ * Angle 1: h is 0.5, its square 2^28 units. The cosine: 2^28 / 132 is 2033601, the rest to 2^30 by 360 is 2976967, that rest by 224 4780200, by
+ * 120 8908013, by 48 22184037, by 8 131444723, and the last rest 942297101 units, 14723392.2 steps. The sine: 2^28 / 110 is 2440322, the rest
+ * by 288 3719796, by 168 6369178, by 80 13342158, by 24 44183319, and the last rest 1029558505 units, 16086851.6 steps, times h. So c is
+ * 14723392 steps and s is 8043426. c * c is 12920991.9 steps and s * s, which has quarter steps, 3856223.93: rounded, 12920992 less 3856224
+ * is 9064768, 8a5140 in hex. s * 2c is 14117540.6 steps, rounded d76aa5.
+ * Then the chassis is turned, which takes the direction to (0, 0, -1) and the axle to (1, 0, 0). With no new control the wheel turns about z
+ * now, from x toward y by the same numbers. Last it is given a rotation in place of the angle: it takes the axle to (1, 0, 0) where the
+ * chassis is not turned, and to (0, 1, 0) where it is, since it stays in the world. */
+static void steered_axles(void)
+{
+    const float rotation[VEHICLE_CONTROLS_LEN] = {0, 0, third, third, third, third};
+    static const float angles[] = {0, 1.0f / 1024, -1.0f / 1024, 1};
+    static const char *const names[] = {"angle 0", "angle 2^-10", "angle -2^-10", "angle 1"};
+    struct car car = {{0}, {0}};
+    float settings[VEHICLE_SETTINGS_LEN];
+    uint32_t wheel, i;
+    memcpy(settings, hanging, sizeof settings);
+    set_up(&car, 1, 0);
+    add_wheel(&car, settings);
+    settings[DIRECTION + 1] = -2;
+    add_wheel(&car, settings);
+    for (i = 0; i < 4; i++) {
+        for (wheel = 0; wheel < 2; wheel++)
+            line("steer", steer(&car, wheel, 0, 0, angles[i]));
+        show_axles(&car, names[i], 0);
+    }
+    show_axles(&car, "turned chassis", 1);
+    for (wheel = 0; wheel < 2; wheel++)
+        line("rotation", vehicle_set_controls(car.table, VEHICLE_TABLE_LEN, car.whole, VEHICLE_WHOLE_LEN, wheel, rotation, VEHICLE_CONTROLS_LEN));
+    show_axles(&car, "chassis not turned", 0);
+    show_axles(&car, "turned chassis", 1);
+}
+
+/* One wheel with an engine of 12 and an angle of 2^-10 on a chassis that stands on flat ground. The axle's parts are those above, x along x and
+ * z along z: the sum of their squares, 2^-20 * (1 - 6 * 2^-24) and 1 - 2^-20, is 1, rounded, so that rule 7's axis is the axle itself and its
+ * forward direction, normal crossed with axis, (z, 0, -x). The spring's impulse of 8 gives 2 upward, which neither direction sees. The forward
+ * impulse is 6: 6 * z is 6 - 6 * 2^-21, 6 * x is 2^-10 * (6 - 2^-20), rounded, and a quarter of each is the velocity: along x, and toward -z. */
+static void steered_engine(void)
+{
+    struct car car = {{0}, {0}};
+    float sights[VEHICLE_AIM_LEN], driven[VEHICLE_DRIVE_LEN] = {0};
+    add_odd(&car, -1, AXLE + 2, 0);
+    line("steer", steer(&car, 0, 12, 0, 1.0f / 1024));
+    line("aim", aim_at(&car, 0, 0, sights));
+    show_drive(drive(&car, VEHICLE_HIT, 1, 0, driven), driven);
+}
+
 /* ---- Each refusal number, met by a call. ---- */
 
 /* Refusal 1, of the driven car's table. */
@@ -288,6 +369,53 @@ static void refused_controls(struct car *car)
 {
     line("controls of wheel 4", set_controls(car, 4, 0, 0));
     line("brake -1", set_controls(car, 0, 0, -1));
+}
+
+/* Refusals 1, 4, 2 and 10 of an angle: 2 is the last that is taken, on both sides. */
+static void refused_angles(struct car *car)
+{
+    static const float controls[VEHICLE_CONTROLS_LEN] = {0};
+    line("six numbers", vehicle_set_controls_by_angle(car->table, VEHICLE_TABLE_LEN, car->whole, VEHICLE_WHOLE_LEN, 0, controls, VEHICLE_CONTROLS_LEN));
+    line("angle of wheel 4", steer(car, 4, 0, 0, 0));
+    line("angle NaN", steer(car, 0, 0, 0, NAN));
+    line("angle 2^21", steer(car, 0, 0, 0, 2 * greatest));
+    line("angle 2", steer(car, 3, 0, 0, 2));
+    line("angle 2 + 2^-22", steer(car, 3, 0, 0, 2.0000002384185791015625f));
+    line("angle -2", steer(car, 3, 0, 0, -2));
+    line("angle -2 - 2^-22", steer(car, 3, 0, 0, -2.0000002384185791015625f));
+    line("brake -1 with an angle", steer(car, 3, 0, -1, 0));
+}
+
+/* An aim of one wheel whose direction has this part along y and no other, steered by this angle, at an inverse mass. */
+static uint32_t aim_along(float direction, float angle, float invmass)
+{
+    struct car car = {{0}, {0}};
+    float chassis[VEHICLE_CHASSIS_LEN], sights[VEHICLE_AIM_LEN];
+    add_odd(&car, direction, AXLE + 2, 0);
+    steer(&car, 0, 0, 0, angle);
+    memcpy(chassis, standing, sizeof chassis);
+    chassis[INVMASS] = invmass;
+    return aim(&car, chassis, sights);
+}
+
+/* Refusal 17, for angle 0 too; 10 comes before it. The square of 2^-75 is 2^-150, half of the least float, and rounded to 0. That of 2^-74 is
+ * 2^-148, a float, whose root is 2^-74, so that nothing is wrong with the axis. Of 1.25 * 2^-74 it is 1.5625 * 2^-148, 3.125 of the least
+ * float, rounded to 3: the axis has a square of 3.125 / 3, and with the squares 0.708 and 0.292 of sine and cosine of 1 the rotation has 1.03.
+ * Without an angle a wheel needs no direction. */
+static void refused_turns(void)
+{
+    const float small = 1 / greatest, tiny = small * small * small / 16384; /* 2^-74 */
+    struct car car = {{0}, {0}};
+    float sights[VEHICLE_AIM_LEN];
+    line("no direction", aim_along(0, 2, 0.25f));
+    line("no direction, angle 0", aim_along(0, 0, 0.25f));
+    line("no direction, no mass", aim_along(0, 2, 0));
+    line("direction 2^-75", aim_along(tiny / 2, 2, 0.25f));
+    line("direction 2^-74", aim_along(tiny, 2, 0.25f));
+    line("direction 1.25 * 2^-74", aim_along(tiny * 1.25f, 2, 0.25f));
+    line("direction 1.25 * 2^-74, angle 0", aim_along(tiny * 1.25f, 0, 0.25f));
+    add_odd(&car, 0, AXLE + 2, 0);
+    line("no direction, no angle", aim_at(&car, 0, 0, sights));
 }
 
 /* Refusal 5 of a drive, 2 of a number handed in, and 5 of a read once an aim was accepted. */
@@ -388,8 +516,12 @@ int main(void)
     upright_axle();
     engine_without_direction();
     no_suspension();
+    steered_axles();
+    steered_engine();
     refused_set_up(&car);
     refused_controls(&car);
+    refused_angles(&car);
+    refused_turns();
     refused_moments(&car);
     refused_lists(&car);
     refused_normals(&car);

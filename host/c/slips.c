@@ -5,6 +5,7 @@
 
 uint32_t proved_vehicle_add_wheel(float *, size_t, uint32_t *, size_t, const float *, size_t);
 uint32_t proved_vehicle_set_controls(float *, size_t, uint32_t *, size_t, uint32_t, const float *, size_t);
+uint32_t proved_vehicle_set_controls_by_angle(float *, size_t, uint32_t *, size_t, uint32_t, const float *, size_t);
 uint32_t proved_vehicle_aim(float *, size_t, uint32_t *, size_t, const float *, size_t, float *, size_t);
 uint32_t proved_vehicle_drive(float *, size_t, uint32_t *, size_t, float, const float *, size_t, const uint32_t *, size_t, const uint32_t *, size_t, const uint32_t *, size_t, const float *, size_t, float *, size_t);
 uint32_t proved_vehicle_read_wheel(const float *, size_t, const uint32_t *, size_t, uint32_t, float *, size_t);
@@ -13,9 +14,13 @@ uint32_t proved_vehicle_read_wheel(const float *, size_t, const uint32_t *, size
 #define MARK 1
 #define AIMED 1
 
-/* The last two numbers of a wheel's row. */
+/* In a wheel's row: its direction, the angle, whether that was given last, and the last two numbers. */
 #define ROW ((VEHICLE_TABLE_LEN - VEHICLE_CHASSIS_LEN) / VEHICLE_MOST_WHEELS)
-#define FELL_BACK(table, wheel) ((table) + VEHICLE_CHASSIS_LEN + ((wheel) + 1) * ROW - 2)
+#define IN_ROW(table, wheel, place) ((table) + VEHICLE_CHASSIS_LEN + (wheel) * ROW + (place))
+#define DIRECTION(table, wheel) IN_ROW(table, wheel, 22)
+#define ANGLE(table, wheel) IN_ROW(table, wheel, 44)
+#define KIND(table, wheel) IN_ROW(table, wheel, 45)
+#define FELL_BACK(table, wheel) IN_ROW(table, (wheel) + 1, -2)
 
 uint32_t vehicle_add_wheel(float *table, size_t table_len, uint32_t *whole, size_t whole_len, const float *settings, size_t settings_len)
 {
@@ -51,14 +56,61 @@ uint32_t vehicle_set_controls(float *table, size_t table_len, uint32_t *whole, s
     if (number == 0 && before == AIMED)
         whole[MARK] = AIMED;
     return number;
+#elif SLIP == 17 /* a rotation does not take the place of an angle */
+    float kind = table_len == VEHICLE_TABLE_LEN && wheel < VEHICLE_MOST_WHEELS ? *KIND(table, wheel) : 0;
+    uint32_t number = proved_vehicle_set_controls(table, table_len, whole, whole_len, wheel, controls, controls_len);
+    if (number == 0)
+        *KIND(table, wheel) = kind;
+    return number;
 #else
     return proved_vehicle_set_controls(table, table_len, whole, whole_len, wheel, controls, controls_len);
 #endif
 }
 
+uint32_t vehicle_set_controls_by_angle(float *table, size_t table_len, uint32_t *whole, size_t whole_len, uint32_t wheel, const float *controls, size_t controls_len)
+{
+#if SLIP == 18 /* an angle beyond the range is taken as the end of it */
+    float clamped[VEHICLE_CONTROLS_BY_ANGLE_LEN];
+    if (controls_len == VEHICLE_CONTROLS_BY_ANGLE_LEN && controls[2] > 2 && controls[2] <= 1048576) {
+        memcpy(clamped, controls, sizeof clamped);
+        clamped[2] = 2;
+        controls = clamped;
+    }
+#endif
+    return proved_vehicle_set_controls_by_angle(table, table_len, whole, whole_len, wheel, controls, controls_len);
+}
+
+#if SLIP == 15 /* an angle turns the other way */
+static float slipped(float angle, const float *direction)
+{
+    (void)direction;
+    return -angle;
+}
+#endif
+#if SLIP == 16 /* a longer direction turns further, as in the Rust source */
+static float slipped(float angle, const float *direction)
+{
+    float further = angle * vehicle_root(direction[0] * direction[0] + direction[1] * direction[1] + direction[2] * direction[2]);
+    return angle >= -2 && angle <= 2 && further >= -2 && further <= 2 ? further : angle;
+}
+#endif
+
 uint32_t vehicle_aim(float *table, size_t table_len, uint32_t *whole, size_t whole_len, const float *chassis, size_t chassis_len, float *results, size_t results_len)
 {
-    uint32_t number = proved_vehicle_aim(table, table_len, whole, whole_len, chassis, chassis_len, results, results_len);
+    uint32_t number;
+#if SLIP == 15 || SLIP == 16 /* other angles while the proved aim works, and the stored ones again after it */
+    float angles[VEHICLE_MOST_WHEELS];
+    size_t wheel, wheels = table_len == VEHICLE_TABLE_LEN ? VEHICLE_MOST_WHEELS : 0;
+    for (wheel = 0; wheel < wheels; wheel++) {
+        angles[wheel] = *ANGLE(table, wheel);
+        *ANGLE(table, wheel) = slipped(angles[wheel], DIRECTION(table, wheel));
+    }
+#endif
+    number = proved_vehicle_aim(table, table_len, whole, whole_len, chassis, chassis_len, results, results_len);
+#if SLIP == 15 || SLIP == 16
+    for (wheel = 0; wheel < wheels; wheel++)
+        *ANGLE(table, wheel) = angles[wheel];
+#endif
 #if SLIP == 4 /* a refused aim keeps the chassis all the same */
     if (number == VEHICLE_OUT_OF_RANGE)
         memcpy(table, chassis, chassis_len * sizeof *chassis);

@@ -61,6 +61,7 @@ static void sizes(void)
     CHECK(vehicle_whole_len() == VEHICLE_WHOLE_LEN);
     CHECK(vehicle_settings_len() == VEHICLE_SETTINGS_LEN);
     CHECK(vehicle_controls_len() == VEHICLE_CONTROLS_LEN);
+    CHECK(vehicle_controls_by_angle_len() == VEHICLE_CONTROLS_BY_ANGLE_LEN);
     CHECK(vehicle_chassis_len() == VEHICLE_CHASSIS_LEN);
     CHECK(vehicle_body_len() == VEHICLE_BODY_LEN);
     CHECK(vehicle_ray_len() == VEHICLE_RAY_LEN);
@@ -142,6 +143,46 @@ static void dead_tyre(void)
     CHECK(tyre[VEHICLE_READ_NO_AXIS] == 0 && tyre[VEHICLE_READ_NO_FORWARD] == 0);
 }
 
+static int is_near(float number, double expected)
+{
+    return number - expected < 1e-6 && expected - number < 1e-6;
+}
+
+/* The example of vehicle.h: 0.5 about a suspension that hangs down turns the axle from z toward x, and an engine of 12 over 0.5, on a mass of 4,
+ * pushes by 1.5 along the rolling direction, toward -z. The chassis' rotation takes x to y, y to z and z to x: in the next frame the axle turns
+ * from x toward y, with no new control. Only the first wheel is steered and pulls. */
+static void steered(void)
+{
+    static const double sine = 0.479426, cosine = 0.877583;
+    struct car car = {{0}, {0}};
+    float wheel[VEHICLE_SETTINGS_LEN] = {0, 0, 0, 0, -1, 0, 0, 0, 1, 1, 1, 8, 2, 2, 0.5f, 1, 8, 1024, VEHICLE_ROLL_INFLUENCE};
+    float chassis[VEHICLE_CHASSIS_LEN] = {0, 0, 0, 0.5f, 0.5f, 0.5f, 0.5f, 0, 0, 0, 0, 0, 0, 0, 0, 0, 0.25f, 0.25f, 0.25f, 0.25f, 0, 0, 0, 0, 0, 0};
+    float sights[VEHICLE_AIM_LEN], driven[VEHICLE_DRIVE_LEN], tyre[VEHICLE_READ_LEN];
+    int i;
+    CHECK(set_up(&car, 1, 0) == VEHICLE_ACCEPTED);
+    for (i = 0; i < WHEELS; i++)
+        CHECK(add_wheel(&car, wheel) == VEHICLE_ACCEPTED);
+    CHECK(steer(&car, 0, 12, 0, 0.5f) == VEHICLE_ACCEPTED);
+    CHECK(aim(&car, 0, 0, sights) == VEHICLE_ACCEPTED);
+    CHECK(drive(&car, 0.5f, VEHICLE_HIT, driven) == VEHICLE_ACCEPTED);
+    CHECK(read_wheel(&car, 0, tyre) == VEHICLE_ACCEPTED);
+    CHECK(is_near(tyre[6], sine) && tyre[7] == 0 && is_near(tyre[8], cosine));
+    CHECK(read_wheel(&car, 1, tyre) == VEHICLE_ACCEPTED && are(tyre + 6, 0, 0, 1));
+    CHECK(is_near(driven[0] / 1.5f, cosine) && is_near(driven[2] / 1.5f, -sine));
+
+    CHECK(vehicle_aim(car.table, VEHICLE_TABLE_LEN, car.whole, VEHICLE_WHOLE_LEN, chassis, VEHICLE_CHASSIS_LEN, sights, VEHICLE_AIM_LEN) == VEHICLE_ACCEPTED);
+    CHECK(drive(&car, 0.5f, VEHICLE_NOTHING, driven) == VEHICLE_ACCEPTED);
+    CHECK(read_wheel(&car, 0, tyre) == VEHICLE_ACCEPTED);
+    CHECK(is_near(tyre[6], cosine) && is_near(tyre[7], sine) && tyre[8] == 0);
+
+    wheel[4] = 0; /* direction */
+    CHECK(add_wheel(&car, wheel) == VEHICLE_ACCEPTED);
+    CHECK(steer(&car, WHEELS, 0, 0, 0) == VEHICLE_ACCEPTED);
+    CHECK(aim(&car, 0, 0, sights) == VEHICLE_BAD_TURN);
+    CHECK(set_controls(&car, WHEELS, 0, 0) == VEHICLE_ACCEPTED);
+    CHECK(aim(&car, 0, 0, sights) == VEHICLE_ACCEPTED);
+}
+
 /* Each refusal leaves the car and the results as they were, bit for bit. */
 static void refusals(struct car *car)
 {
@@ -154,6 +195,9 @@ static void refusals(struct car *car)
     CHECK(set_up(car, 3, 0) == VEHICLE_NO_VEHICLE);
     CHECK(set_controls(car, 0, 12, -1) == VEHICLE_OUT_OF_RANGE);
     CHECK(set_controls(car, 0, 2097152, 0) == VEHICLE_BAD_NUMBER);
+    CHECK(steer(car, 0, 12, 0, 2.5f) == VEHICLE_OUT_OF_RANGE);
+    CHECK(steer(car, 0, 12, 0, 2097152) == VEHICLE_BAD_NUMBER);
+    CHECK(steer(car, WHEELS, 12, 0, 0) == VEHICLE_NO_SUCH_WHEEL);
     CHECK(drive(car, 2, VEHICLE_HIT, driven) == VEHICLE_OUT_OF_RANGE);
     CHECK(drive(car, 0.5f, 3, driven) == VEHICLE_BAD_LISTS);
     CHECK(vehicle_drive(car->table, VEHICLE_TABLE_LEN - 1, car->whole, VEHICLE_WHOLE_LEN, 0.5f, results, 0, before.whole, 0, before.whole, 0, before.whole, 0, results, 0, driven, VEHICLE_DRIVE_LEN) == VEHICLE_NO_VEHICLE);
@@ -170,8 +214,10 @@ int main(void)
     build(car);
     frames(car);
     dead_tyre();
+    steered();
     refusals(car);
     CHECK(vehicle_root(4) == 2);
+    CHECK(vehicle_sine(0) == 0 && vehicle_cosine(0) == 1);
     free(car);
     printf("small_car: %d checks hold\n", checks);
     return 0;

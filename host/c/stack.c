@@ -1,5 +1,5 @@
 /* How deep each call goes into the stack: a thread of its own paints its stack below where it stands, makes the call, and counts how far down
- * the paint is gone. What goes less deep than MARGIN does not show. */
+ * the paint is gone. What goes less deep than MARGIN does not show. The aim has a wheel that is steered by an angle and others by a rotation. */
 #define _POSIX_C_SOURCE 200809L
 #include <pthread.h>
 #include <stdio.h>
@@ -10,8 +10,8 @@
 
 enum { STACK = 1 << 20, PAINT = 0xa5, MARGIN = 256, BODIES = VEHICLE_MOST_BODIES };
 
-enum call { SET_UP, ADD, CONTROLS, AIM, DRIVE, READ, CALLS };
-static const char *const names[CALLS] = {"set up", "add a wheel", "set controls", "aim", "drive", "read a wheel"};
+enum call { SET_UP, ADD, CONTROLS, BY_ANGLE, AIM, DRIVE, READ, CALLS };
+static const char *const names[CALLS] = {"set up", "add a wheel", "set controls", "set controls by angle", "aim", "drive", "read a wheel"};
 static size_t deep[CALLS];
 static unsigned char *stack;
 
@@ -19,6 +19,7 @@ static float table[VEHICLE_TABLE_LEN], sights[VEHICLE_AIM_LEN], driven[VEHICLE_D
 static uint32_t whole[VEHICLE_WHOLE_LEN], wheels;
 static const float settings[VEHICLE_SETTINGS_LEN] = {1, 0, 1, 0, -1, 0, 0, 0, 1, 1, 1, 8, 2, 2, 0.5f, 1, 0.3125f, 1024, VEHICLE_ROLL_INFLUENCE};
 static const float controls[VEHICLE_CONTROLS_LEN] = {12, 3, 0, 0, 0, 1};
+static const float by_angle[VEHICLE_CONTROLS_BY_ANGLE_LEN] = {12, 3, 0.5f};
 static const float chassis[VEHICLE_CHASSIS_LEN] = {0, 0, 0, 0, 0, 0, 1, 0, 0, 0, 12, 0, 5, 0, 0, 0, 0.25f, 0.25f, 0.25f, 0.25f, 0, 0, 0, 0, 0, 0};
 static float bodies[BODIES * VEHICLE_BODY_LEN], rays[VEHICLE_MOST_WHEELS * VEHICLE_RAY_LEN];
 static uint32_t dynamic[BODIES], kinds[VEHICLE_MOST_WHEELS], named[VEHICLE_MOST_WHEELS];
@@ -32,6 +33,8 @@ static uint32_t make(enum call call)
         return vehicle_add_wheel(table, VEHICLE_TABLE_LEN, whole, VEHICLE_WHOLE_LEN, settings, VEHICLE_SETTINGS_LEN);
     case CONTROLS:
         return vehicle_set_controls(table, VEHICLE_TABLE_LEN, whole, VEHICLE_WHOLE_LEN, 0, controls, VEHICLE_CONTROLS_LEN);
+    case BY_ANGLE:
+        return vehicle_set_controls_by_angle(table, VEHICLE_TABLE_LEN, whole, VEHICLE_WHOLE_LEN, 0, by_angle, VEHICLE_CONTROLS_BY_ANGLE_LEN);
     case AIM:
         return vehicle_aim(table, VEHICLE_TABLE_LEN, whole, VEHICLE_WHOLE_LEN, chassis, VEHICLE_CHASSIS_LEN, sights, VEHICLE_AIM_LEN);
     case DRIVE:

@@ -1,12 +1,12 @@
-/* The vehicle controller: six calls on a table that the host lends.
+/* The vehicle controller: six calls on a table that the host lends, one of them in two forms.
  *
  * Link with libexports.a (x86-64), which `rt staticlib exports` writes to target/staticlib. It needs memcpy and memset, and nothing else.
  *
  * The host owns two arrays, a table of VEHICLE_TABLE_LEN floats and VEHICLE_WHOLE_LEN whole numbers, and lends both to every call. Nothing
  * is kept anywhere else, so a copy of the two arrays is a copy of the vehicle, and vehicles may be driven on as many threads as there are.
  *
- * The order of calls: vehicle_set_up once; vehicle_add_wheel for each wheel; then for each frame vehicle_set_controls as needed,
- * vehicle_aim, cast the rays it gives, vehicle_drive with what they met, vehicle_read_wheel.
+ * The order of calls: vehicle_set_up once; vehicle_add_wheel for each wheel; then for each frame vehicle_set_controls_by_angle or
+ * vehicle_set_controls as needed, vehicle_aim, cast the rays it gives, vehicle_drive with what they met, vehicle_read_wheel.
  *
  * Each call answers 0, accepted, or a refusal: one of the numbers VEHICLE_... below. A refusal changes nothing that was lent: not the table,
  * not the whole numbers, not the results. Each call takes every float, NaN and the infinities included, and every content of the two arrays.
@@ -26,19 +26,20 @@ extern "C" {
 
 /* ---- Sizes, in numbers. The functions vehicle_..._len, at the end, give the library's own. ---- */
 
-#define VEHICLE_TABLE_LEN 890      /* the table */
-#define VEHICLE_WHOLE_LEN 4        /* the whole numbers beside it */
-#define VEHICLE_SETTINGS_LEN 19    /* what vehicle_add_wheel takes */
-#define VEHICLE_CONTROLS_LEN 6     /* what vehicle_set_controls takes */
-#define VEHICLE_CHASSIS_LEN 26     /* what vehicle_aim takes */
-#define VEHICLE_AIM_LEN 97         /* what vehicle_aim gives */
-#define VEHICLE_BODY_LEN 16        /* one ground body */
-#define VEHICLE_RAY_LEN 7          /* one ray answer */
-#define VEHICLE_DRIVE_LEN 7        /* what vehicle_drive gives */
-#define VEHICLE_READ_LEN 20        /* what vehicle_read_wheel gives */
-#define VEHICLE_READ_SETTLED 15    /* where in it the settled centre begins */
-#define VEHICLE_READ_NO_AXIS 18    /* where in it 1 stands if the tyre has no axis on the ground, else 0 */
-#define VEHICLE_READ_NO_FORWARD 19 /* where in it 1 stands if the tyre has no rolling direction, else 0 */
+#define VEHICLE_TABLE_LEN 922           /* the table */
+#define VEHICLE_WHOLE_LEN 4             /* the whole numbers beside it */
+#define VEHICLE_SETTINGS_LEN 19         /* what vehicle_add_wheel takes */
+#define VEHICLE_CONTROLS_LEN 6          /* what vehicle_set_controls takes */
+#define VEHICLE_CONTROLS_BY_ANGLE_LEN 3 /* what vehicle_set_controls_by_angle takes */
+#define VEHICLE_CHASSIS_LEN 26          /* what vehicle_aim takes */
+#define VEHICLE_AIM_LEN 97              /* what vehicle_aim gives */
+#define VEHICLE_BODY_LEN 16             /* one ground body */
+#define VEHICLE_RAY_LEN 7               /* one ray answer */
+#define VEHICLE_DRIVE_LEN 7             /* what vehicle_drive gives */
+#define VEHICLE_READ_LEN 20             /* what vehicle_read_wheel gives */
+#define VEHICLE_READ_SETTLED 15         /* where in it the settled centre begins */
+#define VEHICLE_READ_NO_AXIS 18         /* where in it 1 stands if the tyre has no axis on the ground, else 0 */
+#define VEHICLE_READ_NO_FORWARD 19      /* where in it 1 stands if the tyre has no rolling direction, else 0 */
 #define VEHICLE_MOST_WHEELS 16
 #define VEHICLE_MOST_BODIES 64
 
@@ -74,6 +75,10 @@ extern "C" {
  * that the casts give, that of the upward cast too. Only the normal of a hit at time 0 may be zero, all three parts, for a ray that starts
  * inside a shape. */
 #define VEHICLE_BAD_NORMAL 12
+/* (13 to 16 are not given.) At an aim: a wheel that is steered by an angle, be it 0, has a suspension direction that the angle cannot turn
+ * about. It is zero, or below about 2^-74 long, so that its squares are 0 and it has no unit length; or below about 2^-69, where they are so
+ * coarse that the rotation has a sum of squares that is not from 1 - 2^-10 to 1 + 2^-10. Add the wheel with a direction of about length one. */
+#define VEHICLE_BAD_TURN 17
 
 /* ---- The calls. ---- */
 
@@ -93,8 +98,20 @@ uint32_t vehicle_set_up(float *table, size_t table_len, uint32_t *whole, size_t 
  * influence above 1. */
 uint32_t vehicle_add_wheel(float *table, size_t table_len, uint32_t *whole, size_t whole_len, const float *settings, size_t settings_len);
 
-/* Sets the controls of one wheel, kept until they are set again. A vehicle that was aimed must be aimed again.
- * controls, VEHICLE_CONTROLS_LEN: engine force; brake; steering, a rotation in world space (x, y, z, w).
+/* Sets the controls of one wheel, kept until they are set again in either form. A vehicle that was aimed must be aimed again.
+ * controls, VEHICLE_CONTROLS_BY_ANGLE_LEN: engine force; brake; steering, an angle in radians from -2 to 2.
+ * Each aim turns the axle by the angle about minus the wheel's direction in the world, which that aim works out and makes unit length: the
+ * wheel stays steered when the chassis turns, with no new call, and how long the direction is does not matter.
+ * Which way is positive, by numbers: with the direction (0, -1, 0) and a chassis that is not turned, 0.5 takes the axle (0, 0, 1) to
+ * (0.479426, 0, 0.877583), and on ground with the normal (0, 1, 0) the rolling direction, normal crossed with axle, from (1, 0, 0) to
+ * (0.877583, 0, -0.479426). So a wheel that rolls along x with y up turns toward -z: to the left, where z points to the right.
+ * Refuses, the first that holds: 1; 4; 2; 10, a brake below 0, or an angle not from -2 to 2. A direction that an angle cannot turn about is
+ * refused at the aim: VEHICLE_BAD_TURN. */
+uint32_t vehicle_set_controls_by_angle(float *table, size_t table_len, uint32_t *whole, size_t whole_len, uint32_t wheel, const float *controls, size_t controls_len);
+
+/* The same with a rotation in place of the angle.
+ * controls, VEHICLE_CONTROLS_LEN: engine force; brake; steering, a rotation in world space (x, y, z, w). It stays as it is when the chassis
+ * turns: set it again before the aim.
  * Refuses, the first that holds: 1; 4; 2; 10, a brake below 0, or a steering whose sum of squares is not from 1 - 2^-10 to 1 + 2^-10. */
 uint32_t vehicle_set_controls(float *table, size_t table_len, uint32_t *whole, size_t whole_len, uint32_t wheel, const float *controls, size_t controls_len);
 
@@ -104,7 +121,7 @@ uint32_t vehicle_set_controls(float *table, size_t table_len, uint32_t *whole, s
  * results, VEHICLE_AIM_LEN: the signed speed; then for each of 16 wheels where its ray starts (3) and the ray (3), zeros for a wheel that is
  * not there. The ray ends at time 1.
  * Refuses, the first that holds: 1; 2; 10, an inverse mass not from 2^-20 to 2^20, a rotation whose sum of squares is not from 1 - 2^-10 to
- * 1 + 2^-10, or a stored setting out of its range; 8. */
+ * 1 + 2^-10, or a stored setting or steering out of its range; 17, a wheel steered by an angle whose direction it cannot turn about; 8. */
 uint32_t vehicle_aim(float *table, size_t table_len, uint32_t *whole, size_t whole_len, const float *chassis, size_t chassis_len, float *results, size_t results_len);
 
 /* Drives an aimed vehicle by one step on the chassis that the aim kept.
@@ -116,8 +133,8 @@ uint32_t vehicle_aim(float *table, size_t table_len, uint32_t *whole, size_t who
  * rays, VEHICLE_RAY_LEN for each wheel: time of the hit, from 0 to 1; its normal (3); the normal of the upward cast (3). A normal has length
  * one; that of a hit at time 0 may be zero, the upward one never. What a kind does not have is not looked at.
  * results, VEHICLE_DRIVE_LEN: the chassis' new linear velocity (3) and angular velocity (3); 1 if the chassis is to be woken, else 0.
- * Refuses, the first that holds: 1; 5; 6; 2; 12; 10, a dt not from 0 to 1, a body whose inverse mass is below 0, or a stored setting or kept
- * chassis out of its range; 7; 8. */
+ * Refuses, the first that holds: 1; 5; 6; 2; 12; 10, a dt not from 0 to 1, a body whose inverse mass is below 0, or a stored setting, steering
+ * or kept chassis out of its range; 7; 8. */
 uint32_t vehicle_drive(float *table, size_t table_len, uint32_t *whole, size_t whole_len, float dt, const float *bodies, size_t bodies_len, const uint32_t *dynamic, size_t dynamic_len, const uint32_t *kinds, size_t kinds_len, const uint32_t *named, size_t named_len, const float *rays, size_t rays_len, float *results, size_t results_len);
 
 #define VEHICLE_NOTHING 0 /* the ray met nothing */
@@ -144,11 +161,17 @@ uint32_t vehicle_read_wheel(const float *table, size_t table_len, const uint32_t
 /* The square root of x, correctly rounded. A NaN, and a number below zero, give a NaN. */
 float vehicle_root(float x);
 
+/* The sine and the cosine of half a steering angle, a number from -1 to 1: each within 2^-20 of its Taylor sum through the twelfth power. A
+ * rotation by the angle about an axis of unit length is (axis times sine, cosine). */
+float vehicle_sine(float half_angle);
+float vehicle_cosine(float half_angle);
+
 /* The sizes above, as the library has them. */
 uint32_t vehicle_table_len(void);
 uint32_t vehicle_whole_len(void);
 uint32_t vehicle_settings_len(void);
 uint32_t vehicle_controls_len(void);
+uint32_t vehicle_controls_by_angle_len(void);
 uint32_t vehicle_chassis_len(void);
 uint32_t vehicle_body_len(void);
 uint32_t vehicle_ray_len(void);

@@ -2,6 +2,7 @@
 
 use vehicle_controller::ffi::{self, len};
 
+use crate::math::Rotation;
 use crate::scene::{Scene, DT};
 
 /// The place of the mark among the whole numbers, and the mark of an aimed table.
@@ -9,6 +10,9 @@ const MARK: usize = 1;
 const AIMED: u32 = 1;
 /// The kept chassis' two velocities.
 const VELOCITIES: std::ops::Range<usize> = 10..16;
+/// The numbers of a wheel's row, and where the world axle stands in it.
+const ROW: usize = (len::TABLE - len::CHASSIS) / len::WHEELS;
+const AXLE: std::ops::Range<usize> = 16..19;
 
 pub struct Library<'a> {
     scene: &'a Scene,
@@ -39,6 +43,37 @@ impl<'a> Library<'a> {
         }
         library.aim();
         library
+    }
+
+    /// The same with every wheel steered by its angle.
+    pub fn by_angle(scene: &'a Scene) -> Self {
+        let mut library = Library::new(scene);
+        for ((wheel, [engine, brake, ..]), angle) in (0..).zip(&scene.controls).zip(&scene.angles) {
+            let Library { table, whole, .. } = &mut library;
+            let controls = [*engine, *brake, *angle];
+            assert_eq!(ffi::set_controls_by_angle(table, whole, wheel, &controls), 0);
+        }
+        library.aim();
+        library
+    }
+
+    /// The same with every wheel steered by a rotation.
+    pub fn by_rotation(scene: &'a Scene, rotations: &[Rotation]) -> Self {
+        let mut library = Library::new(scene);
+        for ((wheel, [engine, brake, ..]), rotation) in (0..).zip(&scene.controls).zip(rotations) {
+            let Library { table, whole, .. } = &mut library;
+            let [x, y, z, w] = rotation.parts();
+            let controls = [*engine, *brake, x, y, z, w];
+            assert_eq!(ffi::set_controls(table, whole, wheel, &controls), 0);
+        }
+        library.aim();
+        library
+    }
+
+    /// Each wheel's axle in the world.
+    pub fn axles(&self) -> Vec<&[f32]> {
+        let rows = self.table[len::CHASSIS..].chunks(ROW);
+        rows.take(self.scene.settings.len()).map(|row| &row[AXLE]).collect()
     }
 
     /// Set up, and every wheel added.

@@ -3,7 +3,7 @@
 //!
 //! - library: the call through the C interface, as a host makes it: all its tests, the step on a copy, and the copy back.
 //! - source: the file's own `update_vehicle` over document 01's arithmetic, on a vehicle, bodies and ray answers that stand ready: no conversion,
-//!   no refusals, nothing allocated. Steering is the identity.
+//!   no refusals, nothing allocated. Steering is the identity, but in the aims of steered wheels.
 //! - source less transforms: the same of a copy that leaves the wheels' transforms alone: what a drive after an aim has to do.
 //!
 //! Before each drive and each update the chassis' six velocities are put back, and on the library's side the mark.
@@ -29,7 +29,7 @@ use std::hint::black_box;
 use library::Library;
 use measure::{in_turn, Times};
 use scene::Scene;
-use source::{AsSent, Guarded, World, TRANSFORMS};
+use source::{rotations, AsSent, Guarded, Scaled, World, TRANSFORMS};
 
 const ROUNDS: usize = 201;
 
@@ -81,6 +81,17 @@ fn whole() {
             "read one wheel; source: its fields copied, with the settled centre and what fell back",
             wheels,
             read(wheels),
+        );
+    }
+    println!("\nAn aim of steered wheels: the library by angle and by the rotation that the angle makes; source: transforms and speed, by angle\n");
+    println!(
+        "| wheels | by angle | by rotation | ratio | source | ratio |\n|---|---|---|---|---|---|"
+    );
+    for wheels in [1, 4, 16] {
+        let Times { ns, ratios } = steered_aim(wheels);
+        println!(
+            "| {wheels} | {:.0} | {:.0} | {:.2} | {:.0} | {:.2} |",
+            ns[0], ns[1], ratios[1], ns[2], ratios[2]
         );
     }
     println!("\nMemory, in bytes\n");
@@ -207,6 +218,44 @@ fn aim(wheels: usize) -> Times<2> {
         ],
     );
     assert_eq!(library.sights[0], source.0.current_vehicle_speed, "both sides give the same speed");
+    times
+}
+
+/// An aim of wheels that are all steered: by angle, by rotation, and the source by angle.
+fn steered_aim(wheels: usize) -> Times<3> {
+    let scene = Scene::new(wheels, 0);
+    let mut by_angle = Library::by_angle(&scene);
+    let mut by_rotation = Library::by_rotation(&scene, &rotations(&scene));
+    let (world, mut source) = (World::new(&scene), Scaled::steered(&scene));
+    let times = in_turn(
+        ROUNDS,
+        [
+            &mut |turns| {
+                for _ in 0..turns {
+                    by_angle.aim();
+                    black_box(&by_angle.sights);
+                }
+            },
+            &mut |turns| {
+                for _ in 0..turns {
+                    by_rotation.aim();
+                    black_box(&by_rotation.sights);
+                }
+            },
+            &mut |turns| {
+                for _ in 0..turns {
+                    source.aim(black_box(&world));
+                    black_box(&source.0);
+                }
+            },
+        ],
+    );
+    assert_eq!(by_angle.axles(), by_rotation.axles(), "both ways steer alike");
+    let near = |ours: &f32, theirs: f32| (ours - theirs).abs() < 1.0 / 1_048_576.0;
+    for (ours, theirs) in by_angle.axles().into_iter().zip(source.axles()) {
+        let all = ours.iter().zip(theirs).all(|(ours, theirs)| near(ours, theirs));
+        assert!(all, "both sides steer alike: {ours:?} {theirs:?}");
+    }
     times
 }
 

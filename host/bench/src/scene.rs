@@ -8,6 +8,8 @@ pub const DT: f32 = 1.0 / 60.0;
 pub struct Scene {
     pub settings: Vec<[f32; len::SETTINGS]>,
     pub controls: Vec<[f32; len::CONTROLS]>,
+    /// For an aim of steered wheels: each wheel's angle.
+    pub angles: Vec<f32>,
     pub chassis: [f32; len::CHASSIS],
     pub bodies: Vec<f32>,
     pub dynamic: Vec<u32>,
@@ -23,6 +25,7 @@ impl Scene {
         Scene {
             settings: (0..wheels).map(settings).collect(),
             controls: (0..wheels).map(|wheel| controls(wheel, wheels)).collect(),
+            angles: (0..wheels).map(|wheel| 0.5 - 0.125 * (wheel % 9) as f32).collect(),
             chassis: [
                 4.0, 1.25, -3.0, 0.0, 0.6, 0.0, 0.8, 4.0, 1.0, -3.0, 11.0, -0.25, 4.5, 0.03, 0.2,
                 -0.04, 0.001, 0.001, 0.001, 0.001, 0.002, 0.00001, 0.0, 0.0008, 0.0, 0.0015,

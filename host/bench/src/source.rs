@@ -8,10 +8,10 @@ use crate::dynamics::{
     LocalMassProperties, MassProperties, RigidBody, RigidBodyHandle, RigidBodySet,
 };
 use crate::geometry::{AnsweredShape, Collider, ColliderSet, RayIntersection};
-use crate::math::{Inertia, Pose, Rotation, Vector};
+use crate::math::{turn_about, Inertia, Pose, Rotation, Vector};
 use crate::pipeline::{Casts, QueryPipelineMut};
 use crate::scene::{Scene, DT};
-use crate::{as_sent, guarded};
+use crate::{as_sent, guarded, scaled};
 
 thread_local! {
     /// Whether the guarded copy works out the wheels' transforms.
@@ -127,7 +127,7 @@ macro_rules! tuning {
     };
 }
 
-/// One vehicle for each of the file's two forms: they have the same text, but their types differ.
+/// One vehicle for each of the file's forms: they have the same text, but their types differ.
 macro_rules! vehicle {
     ($(#[$about:meta])* $name:ident, $source:ident) => {
         $(#[$about])*
@@ -152,10 +152,27 @@ macro_rules! vehicle {
                 }
                 $name(vehicle)
             }
+        }
+    };
+}
 
+macro_rules! driven {
+    ($name:ident) => {
+        impl $name {
             /// The file's own `update_vehicle`, from the velocities that the scene starts with.
             pub fn update(&mut self, world: &mut World) {
                 self.0.update_vehicle(DT, world.ready());
+            }
+        }
+    };
+}
+
+macro_rules! aimed {
+    ($name:ident) => {
+        impl $name {
+            /// The transforms and the signed speed alone.
+            pub fn aim(&mut self, world: &World) {
+                self.0.aim_part(&world.bodies.bodies[0]);
             }
         }
     };
@@ -169,10 +186,49 @@ vehicle!(
     /// The copy whose transforms can be left as they are.
     Guarded, guarded
 );
+vehicle!(
+    /// The copy that steers by an angle.
+    Scaled, scaled
+);
 
-impl Guarded {
-    /// The transforms and the signed speed alone.
-    pub fn aim(&mut self, world: &World) {
-        self.0.aim_part(&world.bodies.bodies[0]);
+driven!(AsSent);
+driven!(Guarded);
+aimed!(Guarded);
+aimed!(Scaled);
+
+impl Scaled {
+    /// Every wheel steered by its angle.
+    pub fn steered(scene: &Scene) -> Self {
+        let mut vehicle = Scaled::new(scene);
+        for (wheel, angle) in vehicle.0.wheels_mut().iter_mut().zip(&scene.angles) {
+            wheel.steering = *angle;
+        }
+        vehicle
     }
+
+    /// Each wheel's axle in the world.
+    pub fn axles(&self) -> Vec<[f32; 3]> {
+        self.0.wheels().iter().map(|wheel| wheel.axle().parts()).collect()
+    }
+}
+
+/// The source's own path from an angle was not sent: this is a rotation from a scaled axis, as vector libraries have it (docs/DIFFERENCES.md),
+/// with the machine's sine and cosine.
+pub fn rotation_from_angle(scaled: Vector) -> Rotation {
+    let angle = scaled.length();
+    if angle == 0.0 {
+        return Rotation::IDENTITY;
+    }
+    let [x, y, z] = scaled.parts().map(|part| part / angle);
+    let (sine, cosine) = (angle * 0.5).sin_cos();
+    Rotation::new(x * sine, y * sine, z * sine, cosine)
+}
+
+/// The rotations that the scene's angles make, as a host would hand them in.
+pub fn rotations(scene: &Scene) -> Vec<Rotation> {
+    let rotation = chassis(&scene.chassis).pose.rotation;
+    let turn = |(settings, angle): (&[f32; len::SETTINGS], &f32)| {
+        turn_about(-(rotation * vector(&settings[3..])), *angle)
+    };
+    scene.settings.iter().zip(&scene.angles).map(turn).collect()
 }

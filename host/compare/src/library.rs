@@ -1,6 +1,7 @@
 //! The library's side: one code of a scenario as a call on two lent arrays.
 
 use oracle::handed::{Drive, Hit, NewWheel};
+use oracle::math::Steering;
 use oracle::stream::Code;
 use oracle::table::Table;
 use vehicle_controller::ffi::{self, kind, len};
@@ -28,7 +29,11 @@ impl Lent {
             Code::End => 0,
             Code::Add(wheel) => ffi::add_wheel(table, whole, &settings(wheel)),
             Code::Controls(wheel, controls) => {
-                ffi::set_controls(table, whole, *wheel, &controls.numbers())
+                let set = match controls.steering {
+                    Steering::Rotation(_) => ffi::set_controls,
+                    Steering::Angle(_) => ffi::set_controls_by_angle,
+                };
+                set(table, whole, *wheel, &controls.handed_in())
             }
             Code::Aim(chassis) => ffi::aim(table, whole, &chassis.numbers(), &mut results),
             Code::Drive(drive) => {

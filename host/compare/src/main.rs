@@ -12,6 +12,7 @@ mod tally;
 use std::process::ExitCode;
 
 use library::Lent;
+use oracle::math::Steering;
 use oracle::program;
 use oracle::stream::{Code, Reader};
 use oracle::table::Table;
@@ -19,7 +20,8 @@ use scenarios::Kind;
 use tally::Tally;
 
 /// `broken` is left out: it is about the stream, which this comparison does not read.
-const KINDS: [Kind; 6] = [Kind::Car, Kind::Edge, Kind::Wild, Kind::Bad, Kind::Roll, Kind::Axle];
+const KINDS: [Kind; 7] =
+    [Kind::Car, Kind::Edge, Kind::Wild, Kind::Bad, Kind::Roll, Kind::Axle, Kind::Steer];
 
 fn main() -> ExitCode {
     let Some((seeds, from)) = arguments() else {
@@ -140,7 +142,10 @@ pub fn name(code: &Code) -> &'static str {
         Code::End => "end",
         Code::Add(wheel) if wheel.roll_influence.is_some() => "add rolled",
         Code::Add(_) => "add",
-        Code::Controls(..) => "controls",
+        Code::Controls(_, controls) => match controls.steering {
+            Steering::Rotation(_) => "controls",
+            Steering::Angle(_) => "controls by angle",
+        },
         Code::Aim(_) => "aim",
         Code::Drive(_) => "drive",
         Code::Read(_) => "read",

@@ -6,10 +6,12 @@
 
 /// The lengths of what is lent and handed in, and the places in it. `tests/sizes.rs` holds them to the library's own.
 pub mod len {
-    pub const TABLE: usize = 890;
+    pub const TABLE: usize = 922;
     pub const WHOLE: usize = 4;
     pub const SETTINGS: usize = 19;
+    /// Controls with a rotation, and with an angle.
     pub const CONTROLS: usize = 6;
+    pub const CONTROLS_BY_ANGLE: usize = 3;
     pub const CHASSIS: usize = 26;
     /// One ground body.
     pub const BODY: usize = 16;
@@ -33,10 +35,13 @@ pub mod kind {
 mod library {
     extern "C" {
         pub fn vehicle_root(x: f32) -> f32;
+        pub fn vehicle_sine(half_angle: f32) -> f32;
+        pub fn vehicle_cosine(half_angle: f32) -> f32;
         pub fn vehicle_table_len() -> u32;
         pub fn vehicle_whole_len() -> u32;
         pub fn vehicle_settings_len() -> u32;
         pub fn vehicle_controls_len() -> u32;
+        pub fn vehicle_controls_by_angle_len() -> u32;
         pub fn vehicle_chassis_len() -> u32;
         pub fn vehicle_body_len() -> u32;
         pub fn vehicle_ray_len() -> u32;
@@ -60,6 +65,15 @@ mod library {
             settings_len: usize,
         ) -> u32;
         pub fn vehicle_set_controls(
+            table: *mut f32,
+            table_len: usize,
+            whole: *mut u32,
+            whole_len: usize,
+            wheel: u32,
+            controls: *const f32,
+            controls_len: usize,
+        ) -> u32;
+        pub fn vehicle_set_controls_by_angle(
             table: *mut f32,
             table_len: usize,
             whole: *mut u32,
@@ -123,10 +137,15 @@ macro_rules! plain {
 plain! {
     /// The square root, correctly rounded. A NaN, and a number below zero, give a NaN.
     root = vehicle_root(x: f32) -> f32;
+    /// The sine of half a steering angle, a number from -1 to 1: within 2^-20 of its Taylor sum through the twelfth power.
+    sine = vehicle_sine(half_angle: f32) -> f32;
+    /// Its cosine, as near.
+    cosine = vehicle_cosine(half_angle: f32) -> f32;
     table_len = vehicle_table_len() -> u32;
     whole_len = vehicle_whole_len() -> u32;
     settings_len = vehicle_settings_len() -> u32;
     controls_len = vehicle_controls_len() -> u32;
+    controls_by_angle_len = vehicle_controls_by_angle_len() -> u32;
     chassis_len = vehicle_chassis_len() -> u32;
     body_len = vehicle_body_len() -> u32;
     ray_len = vehicle_ray_len() -> u32;
@@ -167,11 +186,32 @@ pub fn add_wheel(table: &mut [f32], whole: &mut [u32], settings: &[f32]) -> u32 
     }
 }
 
-/// Sets the controls of one wheel: engine, brake, steering (x, y, z, w).
+/// Sets the controls of one wheel: engine, brake, steering as a rotation in world space (x, y, z, w).
 pub fn set_controls(table: &mut [f32], whole: &mut [u32], wheel: u32, controls: &[f32]) -> u32 {
     // SAFETY: as in `set_up`.
     unsafe {
         library::vehicle_set_controls(
+            table.as_mut_ptr(),
+            table.len(),
+            whole.as_mut_ptr(),
+            whole.len(),
+            wheel,
+            controls.as_ptr(),
+            controls.len(),
+        )
+    }
+}
+
+/// Sets the controls of one wheel: engine, brake, steering as an angle in radians.
+pub fn set_controls_by_angle(
+    table: &mut [f32],
+    whole: &mut [u32],
+    wheel: u32,
+    controls: &[f32],
+) -> u32 {
+    // SAFETY: as in `set_up`.
+    unsafe {
+        library::vehicle_set_controls_by_angle(
             table.as_mut_ptr(),
             table.len(),
             whole.as_mut_ptr(),

@@ -36,9 +36,15 @@ pub fn settings(s: &WheelSettings) -> [f32; len::SETTINGS] {
     ]
 }
 
-pub fn controls(c: &Controls) -> [f32; len::CONTROLS] {
-    let Rotation { x, y, z, w } = c.steering;
+/// The controls with this rotation for their steering.
+pub fn controls(c: &Controls, steering: Rotation) -> [f32; len::CONTROLS] {
+    let Rotation { x, y, z, w } = steering;
     [c.engine, c.brake, x, y, z, w]
+}
+
+/// The controls with this angle for their steering.
+pub fn controls_by_angle(c: &Controls, angle: f32) -> [f32; len::CONTROLS_BY_ANGLE] {
+    [c.engine, c.brake, angle]
 }
 
 pub fn chassis(c: &Chassis) -> [f32; len::CHASSIS] {

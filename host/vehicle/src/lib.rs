@@ -30,7 +30,7 @@
 //! # let across = Vector::new(0.0, 0.0, 1.0);
 //! let mut vehicle = Vehicle::new(Axis::Y, Axis::X)?;
 //! let wheel = vehicle.add_wheel(&WheelSettings::new(Vector::ZERO, down, across, 1.0, 0.5))?;
-//! vehicle.set_controls(wheel, &Controls { engine: 100.0, ..Controls::default() })?;
+//! vehicle.set_controls(wheel, &Controls { engine: 100.0, brake: 0.0, steering: Steering::Angle(0.3) })?;
 //! # let chassis = Chassis::at_rest(0.01, Inertia::default());
 //!
 //! let aimed = vehicle.aim(&chassis)?;
@@ -51,8 +51,8 @@ mod parts;
 mod refusal;
 
 pub use parts::{
-    Axis, Chassis, Controls, GroundBody, Inertia, RayAnswer, Reading, Rotation, Sight, Vector,
-    Velocity, WheelSettings,
+    Axis, Chassis, Controls, GroundBody, Inertia, RayAnswer, Reading, Rotation, Sight, Steering,
+    Vector, Velocity, WheelSettings,
 };
 pub use refusal::Refusal;
 
@@ -90,12 +90,16 @@ impl Vehicle {
 
     /// Sets the engine force, brake and steering of one wheel, which stay until they are set again.
     pub fn set_controls(&mut self, wheel: u32, controls: &Controls) -> Result<(), Refusal> {
-        let number = ffi::set_controls(
-            &mut self.table[..],
-            &mut self.whole,
-            wheel,
-            &flat::controls(controls),
-        );
+        let (table, whole) = (&mut self.table[..], &mut self.whole);
+        let number = match controls.steering {
+            Steering::Angle(angle) => {
+                let numbers = flat::controls_by_angle(controls, angle);
+                ffi::set_controls_by_angle(table, whole, wheel, &numbers)
+            }
+            Steering::Rotation(rotation) => {
+                ffi::set_controls(table, whole, wheel, &flat::controls(controls, rotation))
+            }
+        };
         Refusal::unless_accepted(number)
     }
 

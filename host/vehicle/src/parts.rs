@@ -66,7 +66,7 @@ pub enum Axis {
 pub struct WheelSettings {
     /// Where the suspension is fixed to the chassis.
     pub connection: Vector,
-    /// Where the suspension points: down.
+    /// Where the suspension points: down. A wheel that is steered by an angle turns about it, and needs one that is not zero.
     pub direction: Vector,
     /// The axle.
     pub axle: Vector,
@@ -123,6 +123,23 @@ impl WheelSettings {
     }
 }
 
+/// How one wheel is steered.
+#[derive(Clone, Copy, Debug, PartialEq)]
+pub enum Steering {
+    /// By an angle in radians, from -2 to 2. Each aim turns the axle by it about minus the wheel's direction in the world, so that the wheel
+    /// stays steered when the chassis turns. Which way is positive: `vehicle_set_controls_by_angle` in `vehicle.h` has an example in numbers.
+    Angle(f32),
+    /// By a rotation in world space. Set it anew before the aim when the chassis has turned.
+    Rotation(Rotation),
+}
+
+/// Straight on: the rotation of a new wheel, which turns nothing however the chassis stands.
+impl Default for Steering {
+    fn default() -> Self {
+        Steering::Rotation(Rotation::IDENTITY)
+    }
+}
+
 /// What drives, brakes and steers one wheel.
 #[derive(Clone, Copy, Debug, Default, PartialEq)]
 pub struct Controls {
@@ -130,8 +147,8 @@ pub struct Controls {
     pub engine: f32,
     /// The brake's greatest impulse, at least 0.
     pub brake: f32,
-    /// The steering, a rotation in world space. Set it anew when the chassis has turned.
-    pub steering: Rotation,
+    /// The steering, by an angle or by a rotation. It takes the place of what was given before, in either form.
+    pub steering: Steering,
 }
 
 /// The chassis at the start of a frame.

@@ -3,7 +3,8 @@
 use std::error::Error;
 use std::fmt;
 
-/// Why a call was refused: document 01's numbers, and 12 of change request 2026-03. The vehicle is then as it was before the call.
+/// Why a call was refused: document 01's numbers, 12 of change request 2026-03 and 17 of 2026-11. The vehicle is then as it was before the
+/// call.
 #[derive(Clone, Copy, Debug, PartialEq, Eq)]
 #[non_exhaustive]
 pub enum Refusal {
@@ -27,6 +28,8 @@ pub enum Refusal {
     OutOfRange,
     /// 12: a ground normal of the wrong length.
     BadNormal,
+    /// 17: a wheel steered by an angle whose suspension direction cannot be turned about.
+    BadTurn,
     /// A number that this crate does not know.
     Other(u32),
 }
@@ -46,6 +49,7 @@ impl Refusal {
             8 => Refusal::WildStep,
             10 => Refusal::OutOfRange,
             12 => Refusal::BadNormal,
+            17 => Refusal::BadTurn,
             other => Refusal::Other(other),
         })
     }
@@ -63,6 +67,7 @@ impl Refusal {
             Refusal::WildStep => 8,
             Refusal::OutOfRange => 10,
             Refusal::BadNormal => 12,
+            Refusal::BadTurn => 17,
             Refusal::Other(number) => number,
         }
     }
@@ -103,7 +108,8 @@ impl Refusal {
             }
             Refusal::OutOfRange => {
                 "a setting is outside what it may be. A radius must be above 0; lengths, stiffness, dampings, grip, forces and \
-                 brake at least 0; a rotation of length one; a roll influence from 0 to 1; \
+                 brake at least 0; a rotation of length one; a steering angle from -2 to 2 radians, not degrees; \
+                 a roll influence from 0 to 1; \
                  the time step from 0 to 1 second; \
                  the chassis neither weightless nor without end heavy; a ground body's inverse mass at least 0."
             }
@@ -111,6 +117,11 @@ impl Refusal {
                 "a normal of the ground is not one unit long: the set was scaled, or its normals were never brought to length one. \
                  Normalise every normal of this frame's hits, that of the upward cast too. \
                  Only a ray that starts inside the ground, at time 0, may come with a normal of zeros."
+            }
+            Refusal::BadTurn => {
+                "a wheel that is steered by an angle has no suspension direction to turn about: it is zero, or far too short. \
+                 Add the wheel with a direction of about length one, down from the chassis, \
+                 or steer it by a rotation, which needs none."
             }
             Refusal::Other(_) => "the library gave a reason that this program does not know: the library is newer than the program.",
         }

@@ -1,8 +1,8 @@
 //! The small car of host/c/hand_worked.c through the typed calls: two frames worked out by hand, and the moments at which nothing can be read.
 
 use vehicle_controller::{
-    Axis, Chassis, Controls, GroundBody, Inertia, RayAnswer, Refusal, Vector, Vehicle, Velocity,
-    WheelSettings,
+    Axis, Chassis, Controls, GroundBody, Inertia, RayAnswer, Refusal, Rotation, Steering, Vector,
+    Vehicle, Velocity, WheelSettings,
 };
 
 const UP: Vector = Vector::new(0.0, 1.0, 0.0);
@@ -174,6 +174,129 @@ fn a_tyre_without_a_direction_says_so() -> Result<(), Refusal> {
     Ok(())
 }
 
+fn steered_by(angle: f32) -> Controls {
+    Controls { steering: Steering::Angle(angle), ..Controls::default() }
+}
+
+/// Takes x to y, y to z and z to x, and nothing is rounded.
+const THIRD: Rotation = Rotation { x: 0.5, y: 0.5, z: 0.5, w: 0.5 };
+
+/// A car of one wheel that hangs by this direction.
+fn unicycle(direction: Vector) -> Result<Vehicle, Refusal> {
+    let mut car = Vehicle::new(Axis::Y, Axis::X)?;
+    car.add_wheel(&WheelSettings { direction, ..wheel(0.0, 0.0, 8.0) })?;
+    Ok(car)
+}
+
+/// The axle after a frame in the air.
+fn axle_of(car: &mut Vehicle, rotation: Rotation) -> Result<Vector, Refusal> {
+    let chassis = Chassis { rotation, ..chassis(Vector::ZERO) };
+    Ok(car.aim(&chassis)?.drive(0.5, &[], &[RayAnswer::Nothing])?.read(0)?.axle)
+}
+
+fn is_near(vector: Vector, x: f32, y: f32, z: f32) -> bool {
+    let near = |a: f32, b: f32| (a - b).abs() < 1e-6;
+    near(vector.x, x) && near(vector.y, y) && near(vector.z, z)
+}
+
+/// The example of vehicle.h, and the same angle the other way.
+#[test]
+fn a_positive_angle_turns_toward_minus_z() -> Result<(), Refusal> {
+    for (angle, sine) in [(0.5, 0.479_426), (-0.5, -0.479_426)] {
+        let mut car = unicycle(Vector::new(0.0, -1.0, 0.0))?;
+        car.set_controls(0, &Controls { engine: 12.0, ..steered_by(angle) })?;
+        let driven = car.aim(&chassis(Vector::ZERO))?.drive(0.5, &[], &[FLOOR])?;
+        let axle = driven.read(0)?.axle;
+        assert!(is_near(axle, sine, 0.0, 0.877_583), "{axle:?}");
+        // An engine of 12 over 0.5 on a mass of 4 is 1.5 along the rolling direction; the spring gives 2 upward.
+        let Vector { x, y, z } = driven.velocity().linear;
+        assert!(is_near(Vector::new(x / 1.5, y, z / 1.5), 0.877_583, 2.0, -sine), "{x} {y} {z}");
+    }
+    Ok(())
+}
+
+/// How long the direction is does not matter, and angle 0 leaves the axle as it is.
+#[test]
+fn an_angle_turns_by_itself_alone() -> Result<(), Refusal> {
+    let turned = |length: f32, angle: f32| {
+        let mut car = unicycle(Vector::new(0.0, -length, 0.0))?;
+        car.set_controls(0, &steered_by(angle))?;
+        axle_of(&mut car, Rotation::IDENTITY)
+    };
+    for angle in [2.0, -2.0, 1.0, 1.0 / 1024.0] {
+        for length in [2.0, 1024.0, 1.0 / 1024.0] {
+            assert_eq!(turned(length, angle)?, turned(1.0, angle)?, "{length} {angle}");
+        }
+    }
+    assert_eq!(turned(1.0, 0.0)?, Vector::new(0.0, 0.0, 1.0));
+    // Worked out in host/c/hand_worked.c.
+    let one = [0x3F57_6AA5, 0, 0x3F0A_5140].map(f32::from_bits);
+    assert_eq!(turned(1.0, 1.0)?, Vector::new(one[0], one[1], one[2]));
+    Ok(())
+}
+
+/// The wheel stays steered with no new control; a rotation stays in the world.
+#[test]
+fn a_chassis_that_turns_takes_an_angle_along() -> Result<(), Refusal> {
+    let mut car = unicycle(Vector::new(0.0, -1.0, 0.0))?;
+    car.set_controls(0, &steered_by(1.0))?;
+    let Vector { x, y, z } = axle_of(&mut car, Rotation::IDENTITY)?;
+    assert_eq!(axle_of(&mut car, THIRD)?, Vector::new(z, x, y));
+    assert_eq!(axle_of(&mut car, Rotation::IDENTITY)?, Vector::new(x, y, z));
+    car.set_controls(0, &Controls { steering: Steering::Rotation(THIRD), ..Controls::default() })?;
+    assert_eq!(axle_of(&mut car, Rotation::IDENTITY)?, Vector::new(1.0, 0.0, 0.0));
+    assert_eq!(axle_of(&mut car, THIRD)?, Vector::new(0.0, 1.0, 0.0));
+    car.set_controls(0, &Controls::default())?;
+    assert_eq!(axle_of(&mut car, THIRD)?, Vector::new(1.0, 0.0, 0.0), "straight on");
+    Ok(())
+}
+
+/// What a refusal must leave as it was.
+fn shown(car: &Vehicle) -> String {
+    format!("{car:?}")
+}
+
+#[test]
+fn an_angle_is_from_minus_two_to_two() -> Result<(), Refusal> {
+    let mut car = car()?;
+    car.set_controls(0, &steered_by(-2.0))?;
+    car.set_controls(0, &steered_by(2.0))?;
+    let before = shown(&car);
+    let next = f32::from_bits(2.0f32.to_bits() + 1);
+    for (angle, refusal) in [
+        (next, Refusal::OutOfRange),
+        (-next, Refusal::OutOfRange),
+        (30.0, Refusal::OutOfRange),
+        (f32::NAN, Refusal::BadNumber),
+        (f32::NEG_INFINITY, Refusal::BadNumber),
+        (2_097_152.0, Refusal::BadNumber),
+    ] {
+        assert_eq!(car.set_controls(0, &steered_by(angle)), Err(refusal), "{angle}");
+        assert_eq!(shown(&car), before, "{angle}");
+    }
+    assert_eq!(car.set_controls(4, &steered_by(0.0)), Err(Refusal::NoSuchWheel));
+    car.aim(&chassis(Vector::ZERO))?;
+    Ok(())
+}
+
+#[test]
+fn an_angle_needs_a_direction() -> Result<(), Refusal> {
+    for direction in [Vector::ZERO, Vector::new(0.0, -1e-30, 0.0)] {
+        let mut car = unicycle(direction)?;
+        car.aim(&chassis(Vector::ZERO))?;
+        for angle in [0.0, 1.0] {
+            car.set_controls(0, &steered_by(angle))?;
+            let before = shown(&car);
+            let refusal = car.aim(&chassis(Vector::new(12.0, 0.0, 5.0))).err();
+            assert_eq!(refusal, Some(Refusal::BadTurn));
+            assert_eq!(shown(&car), before);
+        }
+        car.set_controls(0, &Controls::default())?;
+        car.aim(&chassis(Vector::ZERO))?;
+    }
+    Ok(())
+}
+
 #[test]
 fn the_plain_calls_refuse_at_a_wrong_moment() -> Result<(), Refusal> {
     let mut car = car()?;
@@ -233,7 +356,7 @@ fn refusals_through_the_typed_calls() -> Result<(), Refusal> {
 
 #[test]
 fn each_refusal_has_its_number_and_words() {
-    for number in [1, 2, 3, 4, 5, 6, 7, 8, 10, 12, 99] {
+    for number in [1, 2, 3, 4, 5, 6, 7, 8, 10, 12, 17, 99] {
         let refusal = Refusal::unless_accepted(number).expect_err("a refusal");
         assert_eq!(refusal.number(), number);
         let words = refusal.to_string();
@@ -243,6 +366,15 @@ fn each_refusal_has_its_number_and_words() {
         );
     }
     assert_eq!(Refusal::unless_accepted(0), Ok(()));
+}
+
+/// Half a radian in steps of 2^-24, as worked out in host/c/hand_worked.c.
+#[test]
+fn the_sine_and_cosine_of_half_a_radian() {
+    let step = 1.0 / 16_777_216.0;
+    assert_eq!(vehicle_controller::ffi::cosine(0.5), 14_723_392.0 * step);
+    assert_eq!(vehicle_controller::ffi::sine(0.5), 8_043_426.0 * step);
+    assert_eq!(vehicle_controller::ffi::sine(-0.5), -8_043_426.0 * step);
 }
 
 #[test]

@@ -4,12 +4,13 @@ use vehicle_controller::ffi::{self, kind, len};
 use vehicle_controller::WheelSettings;
 
 /// A size here, in the library, and its macro in the header.
-fn sizes() -> [(usize, u32, &'static str); 10] {
+fn sizes() -> [(usize, u32, &'static str); 11] {
     [
         (len::TABLE, ffi::table_len(), "VEHICLE_TABLE_LEN"),
         (len::WHOLE, ffi::whole_len(), "VEHICLE_WHOLE_LEN"),
         (len::SETTINGS, ffi::settings_len(), "VEHICLE_SETTINGS_LEN"),
         (len::CONTROLS, ffi::controls_len(), "VEHICLE_CONTROLS_LEN"),
+        (len::CONTROLS_BY_ANGLE, ffi::controls_by_angle_len(), "VEHICLE_CONTROLS_BY_ANGLE_LEN"),
         (len::CHASSIS, ffi::chassis_len(), "VEHICLE_CHASSIS_LEN"),
         (len::BODY, ffi::body_len(), "VEHICLE_BODY_LEN"),
         (len::RAY, ffi::ray_len(), "VEHICLE_RAY_LEN"),
@@ -74,9 +75,20 @@ fn each_number_lands_at_its_place() {
     assert_eq!(ffi::aim(&mut table, &mut whole, &chassis, &mut [0.0; len::AIM]), 0);
     assert_eq!(table[..len::CHASSIS], chassis, "the chassis is kept as it was handed in");
     let row = &table[len::CHASSIS..];
-    // Settings and controls stand together in a row, in the order in which they are handed in.
+    // Settings and controls stand together in a row, in the order in which they are handed in; then the angle, and 1 if that counts.
     assert_eq!(row[19..38], settings, "settings");
     assert_eq!(row[38..44], controls, "controls");
+    assert_eq!(row[44..46], [0.0, 0.0], "steered by a rotation");
+    let of_row = len::CHASSIS + 38..len::CHASSIS + 46;
+    assert_eq!(ffi::set_controls_by_angle(&mut table, &mut whole, 0, &[9.0, 10.0, -1.5]), 0);
+    let by_angle = [9.0, 10.0, 0.0, 0.0, 0.0, 1.0, -1.5, 1.0];
+    assert_eq!(table[of_row.clone()], by_angle, "the rotation is that of a new wheel");
+    assert_eq!(ffi::set_controls(&mut table, &mut whole, 0, &controls), 0);
+    assert_eq!(table[of_row.clone()], [7.0, 8.0, 0.0, 0.6, 0.0, 0.8, 0.0, 0.0], "a rotation again");
+    assert_eq!(ffi::add_wheel(&mut table, &mut whole, &settings), 0);
+    let next = (len::TABLE - len::CHASSIS) / len::WHEELS;
+    let new = [0.0, 0.0, 0.0, 0.0, 0.0, 1.0, 0.0, 0.0];
+    assert_eq!(table[of_row.start + next..of_row.end + next], new, "a new wheel");
 }
 
 /// The last two numbers of the first wheel's row, as 1 and 0, and those of its read: any stored number but 0 is a yes.

@@ -6,8 +6,8 @@ mod lent;
 use std::collections::BTreeMap;
 
 use lent::{
-    accepted, chassis, controls, drive, moments, settings, Call, Drive, Lent, FORWARD, MARK, UP,
-    WHEELS,
+    accepted, by_angle, chassis, controls, drive, moments, settings, Call, Drive, Lent, BY_ANGLE,
+    FORWARD, MARK, UP, WHEELS,
 };
 use vehicle_controller::ffi::{kind, len};
 
@@ -18,6 +18,13 @@ const STORED: f32 = 1_099_511_627_776.0; // 2^40
 const RADIUS: usize = 10;
 const ROLL_INFLUENCE: usize = len::SETTINGS - 1;
 const SETTINGS_IN_ROW: usize = 19;
+
+/// Where the suspension's direction, the last part of the steering's rotation, the angle, and which of the two counts stand in a row.
+const DIRECTION_IN_ROW: usize = 22;
+const W_IN_ROW: usize = 43;
+const ANGLE_IN_ROW: usize = 44;
+const KIND_IN_ROW: usize = 45;
+const ROW: usize = (len::TABLE - len::CHASSIS) / len::WHEELS;
 
 /// The bad numbers for a bound: NaN, the infinities and the next float beyond the bound, on both sides.
 fn bad(bound: f32) -> [f32; 5] {
@@ -121,6 +128,12 @@ fn wrong_moments(swept: &mut Swept) {
                 &Call::Controls(wheel, controls()),
                 4,
             );
+            swept.expect(
+                &format!("controls by angle of wheel {wheel}"),
+                &state,
+                &Call::ByAngle(wheel, by_angle()),
+                4,
+            );
         }
     }
 }
@@ -130,6 +143,7 @@ fn bad_fields(swept: &mut Swept) {
     let [(_, new), (_, aimed), _] = moments();
     swept.fields("settings", &new, &settings(), |_| 2, Call::Add);
     swept.fields("controls", &new, &controls(), |_| 2, |list| Call::Controls(1, list));
+    swept.fields("by angle", &new, &by_angle(), |_| 2, |list| Call::ByAngle(1, list));
     swept.fields("chassis", &new, &chassis(), |_| 2, Call::Aim);
     swept.fields("dt", &aimed, &[drive().dt], |_| 2, |list| driving(|d| d.dt = list[0]));
     swept.fields("bodies", &aimed, &drive().bodies, |_| 2, |list| driving(|d| d.bodies = list));
@@ -162,6 +176,10 @@ fn wrong_sizes(swept: &mut Swept) {
     let [(_, new), (_, aimed), _] = moments();
     swept.lengths("settings", &new, &settings(), 1, Call::Add);
     swept.lengths("controls", &new, &controls(), 1, |list| Call::Controls(1, list));
+    swept.lengths("by angle", &new, &by_angle(), 1, |list| Call::ByAngle(1, list));
+    // Each list is refused by the other call.
+    swept.expect("three numbers for six", &new, &Call::Controls(1, by_angle()), 1);
+    swept.expect("six numbers for three", &new, &Call::ByAngle(1, controls()), 1);
     swept.lengths("chassis", &new, &chassis(), 1, Call::Aim);
     swept.lengths("bodies", &aimed, &drive().bodies, 6, |list| driving(|d| d.bodies = list));
     swept.lengths("dynamic", &aimed, &drive().dynamic, 6, |list| driving(|d| d.dynamic = list));
@@ -227,8 +245,7 @@ fn rubbish(swept: &mut Swept) {
                 swept.expect(&format!("whole number {place}: {value}"), &spoilt, &call, number(1));
             }
         }
-        let row = (len::TABLE - len::CHASSIS) / len::WHEELS;
-        let used = len::CHASSIS + WHEELS * row;
+        let used = len::CHASSIS + WHEELS * ROW;
         for place in 0..len::TABLE {
             for value in bad(STORED) {
                 let spoilt = with(&state, |lent| lent.table[place] = value);
@@ -306,6 +323,119 @@ fn out_of_range(swept: &mut Swept) {
         &Call::Drive(drive()),
         10,
     );
+}
+
+/// Angles at the ends of their range and a step past them, handed in and stored; and stored ones that do not count.
+fn angles(swept: &mut Swept) {
+    let [(_, new), (_, aimed), _] = moments();
+    let beyond = f32::from_bits(2.0f32.to_bits() + 1);
+    let place = |wheel: usize, in_row: usize| len::CHASSIS + wheel * ROW + in_row;
+    let stored = |state: &Lent, wheel: usize, in_row: usize, value: f32| {
+        with(state, |lent| lent.table[place(wheel, in_row)] = value)
+    };
+    let mut both = |what: &str, spoil: &dyn Fn(&Lent) -> Lent, number: u32| {
+        swept.expect(what, &spoil(&new), &Call::Aim(chassis()), number);
+        swept.expect(what, &spoil(&aimed), &Call::Drive(drive()), number);
+    };
+    for (angle, number) in [
+        (0.0, 0),
+        (-0.0, 0),
+        (f32::from_bits(1), 0),
+        (2.0, 0),
+        (-2.0, 0),
+        (beyond, 10),
+        (-beyond, 10),
+        (90.0, 10),
+        (HANDED, 10),
+    ] {
+        let what = format!("a stored angle {angle}");
+        both(&what, &|state| stored(state, BY_ANGLE, ANGLE_IN_ROW, angle), number);
+        // Of a wheel that is steered by a rotation it is not looked at.
+        both(&what, &|state| stored(state, 0, ANGLE_IN_ROW, angle), 0);
+    }
+    for w in [0.0, 0.999, 1.001, -1.001, 5.0] {
+        let what = format!("a stored rotation {w}");
+        both(&what, &|state| stored(state, 0, W_IN_ROW, w), 10);
+        both(&what, &|state| stored(state, BY_ANGLE, W_IN_ROW, w), 0);
+    }
+    // Any number but 0 says that the angle counts: of wheel 0 one that is out of range.
+    for (kind, number) in
+        [(0.0, 0), (-0.0, 0), (1.0, 10), (-1.0, 10), (f32::from_bits(1), 10), (STORED, 10)]
+    {
+        let spoil = |state: &Lent| {
+            let beyond = stored(state, 0, ANGLE_IN_ROW, beyond);
+            stored(&beyond, 0, KIND_IN_ROW, kind)
+        };
+        both(&format!("kind {kind}"), &spoil, number);
+    }
+    let steer = |angle: f32| {
+        let mut list = by_angle();
+        list[2] = angle;
+        Call::ByAngle(0, list)
+    };
+    for (angle, number) in
+        [(2.0, 0), (-2.0, 0), (-0.0, 0), (beyond, 10), (-beyond, 10), (HANDED, 10)]
+    {
+        swept.expect(&format!("angle {angle}"), &new, &steer(angle), number);
+    }
+    let mut braked = by_angle();
+    braked[1] = -f32::from_bits(1);
+    swept.expect("brake with an angle", &new, &Call::ByAngle(0, braked), 10);
+}
+
+/// Directions that an angle cannot turn about, of wheels that are steered by one and of others, and the place of 17 between 10 and 8.
+fn turns(swept: &mut Swept) {
+    let [(_, new), (_, aimed), _] = moments();
+    let directed = |state: &Lent, wheel: usize, direction: [f32; 3]| {
+        let from = len::CHASSIS + wheel * ROW + DIRECTION_IN_ROW;
+        with(state, |lent| lent.table[from..from + 3].copy_from_slice(&direction))
+    };
+    // 2^-74, whose square is twice the least float; by 1.25 it is rounded so much that the rotation is too long.
+    let short = f32::from_bits((127 - 74) << 23);
+    for (direction, number) in [
+        ([0.0; 3], 17),
+        ([-0.0; 3], 17),
+        ([0.0, short / 2.0, 0.0], 17),
+        ([1e-30, -1e-30, 1e-30], 17),
+        ([0.0, short, 0.0], 0),
+        ([0.0, -2.0, 0.0], 0),
+        ([HANDED, -HANDED, HANDED], 0),
+    ] {
+        let what = format!("direction {direction:?}");
+        let aim = Call::Aim(chassis());
+        swept.expect(&what, &directed(&new, BY_ANGLE, direction), &aim, number);
+        swept.expect(&what, &directed(&new, 0, direction), &aim, 0);
+        // A drive works on what the aim has left.
+        swept.expect(&what, &directed(&aimed, BY_ANGLE, direction), &Call::Drive(drive()), 0);
+    }
+    let steered = |angle: f32, direction: [f32; 3]| {
+        let mut list = by_angle();
+        list[2] = angle;
+        let steered = new.clone().after(&[Call::ByAngle(BY_ANGLE as u32, list)]);
+        directed(&steered, BY_ANGLE, direction)
+    };
+    let coarse = [0.0, short * 1.25, 0.0];
+    for angle in [2.0, -2.0] {
+        swept.expect("a coarse direction", &steered(angle, coarse), &Call::Aim(chassis()), 17);
+    }
+    swept.expect("a coarse direction, not turned", &steered(0.0, coarse), &Call::Aim(chassis()), 0);
+    swept.expect("no direction, not turned", &steered(0.0, [0.0; 3]), &Call::Aim(chassis()), 17);
+    // In the order 1, 2, 10, 17, 8: the earlier refusal is given.
+    let none = steered(1.0, [0.0; 3]);
+    let chassis_with = |place: usize, value: f32| {
+        let mut list = chassis();
+        list[place] = value;
+        Call::Aim(list)
+    };
+    swept.expect("and axis", &with(&none, |lent| lent.whole[UP] = 3), &Call::Aim(chassis()), 1);
+    swept.expect("and number", &none, &chassis_with(0, f32::NAN), 2);
+    swept.expect("and inverse mass", &none, &chassis_with(16, 0.0), 10);
+    let spoilt = with(&none, |lent| lent.table[len::CHASSIS + SETTINGS_IN_ROW + RADIUS] = 0.0);
+    swept.expect("and radius", &spoilt, &Call::Aim(chassis()), 10);
+    let far =
+        |state: &Lent| with(state, |lent| lent.table[len::CHASSIS + SETTINGS_IN_ROW] = STORED);
+    swept.expect("and a hard point too far", &far(&none), &chassis_with(0, HANDED), 17);
+    swept.expect("a hard point too far", &far(&new), &chassis_with(0, HANDED), 8);
 }
 
 /// Normals at the ends of their band, a step past them, two long and zero; zero at time 0, which is exempt, and at others.
@@ -398,11 +528,13 @@ fn every_wrong_call_is_answered_by_its_number_and_changes_nothing() {
     bad_lists(&mut swept);
     rubbish(&mut swept);
     out_of_range(&mut swept);
+    angles(&mut swept);
+    turns(&mut swept);
     normals(&mut swept);
     the_rest(&mut swept);
     let total: usize = swept.0.values().sum();
     println!("swept {total} calls; times that each number was given: {:?}", swept.0);
     let met: Vec<u32> = swept.0.keys().copied().collect();
-    assert_eq!(met, [0, 1, 2, 3, 4, 5, 6, 7, 8, 10, 12]);
+    assert_eq!(met, [0, 1, 2, 3, 4, 5, 6, 7, 8, 10, 12, 17]);
     assert!(total > 25_000, "the sweep has shrunk to {total}");
 }

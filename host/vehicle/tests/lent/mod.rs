@@ -1,4 +1,4 @@
-//! A vehicle's two arrays, and the six calls on them as values, so that a test can change one number of a call at a time.
+//! A vehicle's two arrays, and the calls on them as values, so that a test can change one number of a call at a time.
 
 use vehicle_controller::ffi::{self, kind, len};
 
@@ -13,6 +13,7 @@ pub enum Call {
     SetUp(u32, u32),
     Add(Vec<f32>),
     Controls(u32, Vec<f32>),
+    ByAngle(u32, Vec<f32>),
     Aim(Vec<f32>),
     Drive(Drive),
     Read(u32),
@@ -61,6 +62,9 @@ impl Lent {
             Call::SetUp(up, forward) => ffi::set_up(table, whole, *up, *forward),
             Call::Add(settings) => ffi::add_wheel(table, whole, settings),
             Call::Controls(wheel, controls) => ffi::set_controls(table, whole, *wheel, controls),
+            Call::ByAngle(wheel, controls) => {
+                ffi::set_controls_by_angle(table, whole, *wheel, controls)
+            }
             Call::Aim(chassis) => ffi::aim(table, whole, chassis, results),
             Call::Drive(Drive { dt, bodies, dynamic, kinds, named, rays }) => {
                 ffi::drive(table, whole, *dt, bodies, dynamic, kinds, named, rays, results)
@@ -82,6 +86,8 @@ impl Lent {
 /// The wheels of the car below, and the ground bodies of its drive.
 pub const WHEELS: usize = 3;
 pub const BODIES: usize = 2;
+/// The one that is steered by an angle.
+pub const BY_ANGLE: usize = 2;
 
 pub fn settings() -> Vec<f32> {
     vec![
@@ -92,6 +98,10 @@ pub fn settings() -> Vec<f32> {
 
 pub fn controls() -> Vec<f32> {
     vec![12.0, 3.0, 0.0, 0.0, 0.0, 1.0]
+}
+
+pub fn by_angle() -> Vec<f32> {
+    vec![12.0, 3.0, 0.5]
 }
 
 pub fn chassis() -> Vec<f32> {
@@ -115,26 +125,27 @@ pub fn drive() -> Drive {
     }
 }
 
-/// The car at each moment of its life, with its name.
+/// The car at each moment of its life, with its name. Its first two wheels are steered by a rotation, the last by an angle.
 pub fn moments() -> [(&'static str, Lent); 3] {
     let nothing =
         Lent { table: vec![0.0; len::TABLE], whole: vec![0; len::WHOLE], results: vec![] };
     let new = nothing
         .after(&[Call::SetUp(1, 0)])
         .after(&vec![Call::Add(settings()); WHEELS])
-        .after(&[Call::Controls(0, controls())]);
+        .after(&[Call::Controls(0, controls()), Call::ByAngle(BY_ANGLE as u32, by_angle())]);
     let aimed = new.clone().after(&[Call::Aim(chassis())]);
     let driven = aimed.clone().after(&[Call::Drive(drive())]);
     [("new", new), ("aimed", aimed), ("driven", driven)]
 }
 
 /// One accepted call of each kind, and the car at the moment at which it is accepted.
-pub fn accepted() -> [(Call, Lent); 6] {
+pub fn accepted() -> [(Call, Lent); 7] {
     let [(_, new), (_, aimed), (_, driven)] = moments();
     [
         (Call::SetUp(1, 0), driven.clone()),
         (Call::Add(settings()), new.clone()),
         (Call::Controls(1, controls()), new.clone()),
+        (Call::ByAngle(1, by_angle()), new.clone()),
         (Call::Aim(chassis()), new),
         (Call::Drive(drive()), aimed),
         (Call::Read(2), driven),
