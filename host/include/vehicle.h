@@ -162,7 +162,8 @@ uint32_t vehicle_read_wheel(const float *table, size_t table_len, const uint32_t
 float vehicle_root(float x);
 
 /* The sine and the cosine of half a steering angle, a number from -1 to 1: each within 2^-20 of its Taylor sum through the twelfth power. A
- * rotation by the angle about an axis of unit length is (axis times sine, cosine). */
+ * rotation by the angle about an axis of unit length is (axis times sine, cosine). Any other number is half of no steering angle: it gives
+ * itself and 1. */
 float vehicle_sine(float half_angle);
 float vehicle_cosine(float half_angle);
 

@@ -30,7 +30,7 @@ pub extern "C" fn vehicle_root(x: f32) -> f32
     real::root::root(x)
 }
 
-// The sine of half a steering angle, which is from -1 to 1.
+// The sine of half a steering angle, which is from -1 to 1. Any other number is half of none, and gives itself.
 #[no_mangle]
 pub extern "C" fn vehicle_sine(half: f32) -> f32
     ensures { λ r. ⌜ r ≡ sineOf binary32 half ⌝ }
@@ -39,7 +39,7 @@ pub extern "C" fn vehicle_sine(half: f32) -> f32
     turn.sine
 }
 
-// Its cosine.
+// Its cosine. Any other number gives 1.
 #[no_mangle]
 pub extern "C" fn vehicle_cosine(half: f32) -> f32
     ensures { λ r. ⌜ r ≡ cosineOf binary32 half ⌝ }
