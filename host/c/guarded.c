@@ -1,11 +1,12 @@
 /* Each array of each call, at many lengths, right at the edge of memory that may not be touched.
  *
  * An array ends where a page without any access begins, or begins where one ends, so that a read or a write by the library one number
- * beyond either end stops the program. The lengths are 0, 1, half, one less, the right one, one more and double; the answer is asserted each time.
+ * beyond either end stops the program. The lengths are 0, 1, half, one less, the right one, one more and double; the answer is asserted each time,
+ * and that its explanation, which reads the same arrays, finds a culprit. The explanation of every other number reads them too.
  *
  * The same program on the heap (GUARD_HEAP) is for the address sanitizer and valgrind, with arrays of exactly the size that is lent. What the
- * sanitizer shows is less: the archive is not instrumented, so of the library only its memcpy and memset are checked, beside this program
- * itself. Valgrind checks every access of the library to the heap. */
+ * sanitizer shows is less: the proved archive is not instrumented, so of it only its memcpy and memset are checked, beside this program and the
+ * help. Valgrind checks every access of the library to the heap. */
 #ifndef _GNU_SOURCE
 #define _GNU_SOURCE
 #endif
@@ -13,7 +14,7 @@
 #include <stdlib.h>
 #include <string.h>
 
-#include "vehicle.h"
+#include "vehicle_help.h"
 
 enum { WHEELS = 2, BODIES = 2, PLACES = 7 };
 
@@ -89,6 +90,41 @@ static uint32_t make(enum call call, void *const at[ARRAYS], const size_t n[ARRA
     }
 }
 
+static vehicle_finding explain(enum call call, uint32_t answer, void *const at[ARRAYS], const size_t n[ARRAYS])
+{
+    const float *table = (const float *)at[TABLE];
+    const uint32_t *whole = (const uint32_t *)at[WHOLE];
+    switch (call) {
+    case SET_UP:
+        return vehicle_explain_set_up(answer, table, n[TABLE], whole, n[WHOLE], 1, 0);
+    case ADD:
+        return vehicle_explain_add_wheel(answer, table, n[TABLE], whole, n[WHOLE], (const float *)at[SETTINGS], n[SETTINGS]);
+    case SET_CONTROLS:
+        return vehicle_explain_set_controls(answer, table, n[TABLE], whole, n[WHOLE], 0, (const float *)at[CONTROLS], n[CONTROLS]);
+    case SET_BY_ANGLE:
+        return vehicle_explain_set_controls_by_angle(answer, table, n[TABLE], whole, n[WHOLE], 1, (const float *)at[BY_ANGLE], n[BY_ANGLE]);
+    case AIM:
+        return vehicle_explain_aim(answer, table, n[TABLE], whole, n[WHOLE], (const float *)at[CHASSIS], n[CHASSIS], (const float *)at[SIGHTS], n[SIGHTS]);
+    case DRIVE:
+        return vehicle_explain_drive(answer, table, n[TABLE], whole, n[WHOLE], 0.5f, (const float *)at[BODY], n[BODY], (const uint32_t *)at[DYNAMIC], n[DYNAMIC], (const uint32_t *)at[KINDS], n[KINDS], (const uint32_t *)at[NAMED], n[NAMED], (const float *)at[RAYS], n[RAYS], (const float *)at[DRIVEN], n[DRIVEN]);
+    default:
+        return vehicle_explain_read_wheel(answer, table, n[TABLE], whole, n[WHOLE], 1, (const float *)at[TYRE], n[TYRE]);
+    }
+}
+
+/* That a refusal has its explanation; the others are asked for what they read. */
+static void explain_all(enum call call, uint32_t number, void *const at[ARRAYS], const size_t n[ARRAYS])
+{
+    uint32_t answer;
+    for (answer = 0; answer <= VEHICLE_BAD_TURN; answer++) {
+        vehicle_finding finding = explain(call, answer, at, n);
+        if (answer == number && number != 0 && finding.field == NULL) {
+            fprintf(stderr, "guarded: call %d: nothing explains %lu\n", (int)call, (unsigned long)number);
+            exit(1);
+        }
+    }
+}
+
 /* Makes the call with one array of another length, and gives its number. */
 static uint32_t call_with(enum call call, enum array odd, size_t length, int at_end)
 {
@@ -103,6 +139,7 @@ static uint32_t call_with(enum call call, enum array odd, size_t length, int at_
             ((uint32_t *)at[a])[i] = contents[a][i % right[a]];
     }
     number = make(call, at, n);
+    explain_all(call, number, at, n);
     for (a = 0; a < ARRAYS; a++) {
         if (number == 0 && length == right[odd])
             memcpy(contents[a], at[a], n[a] * 4);

@@ -148,7 +148,7 @@ static int is_near(float number, double expected)
     return number - expected < 1e-6 && expected - number < 1e-6;
 }
 
-/* The example of vehicle.h: 0.5 about a suspension that hangs down turns the axle from z toward x, and an engine of 12 over 0.5, on a mass of 4,
+/* The example of docs/NUMBERS.md: 0.5 about a suspension that hangs down turns the axle from z toward x, and an engine of 12 over 0.5, on a mass of 4,
  * pushes by 1.5 along the rolling direction, toward -z. The chassis' rotation takes x to y, y to z and z to x: in the next frame the axle turns
  * from x toward y, with no new control. Only the first wheel is steered and pulls. */
 static void steered(void)

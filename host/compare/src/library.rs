@@ -4,10 +4,14 @@ use oracle::handed::{Drive, Hit, NewWheel};
 use oracle::math::Steering;
 use oracle::stream::Code;
 use oracle::table::Table;
-use vehicle_controller::ffi::{self, kind, len};
-use vehicle_controller::WheelSettings;
+use vehicle_controller::ffi::{self, help, kind, len};
+use vehicle_controller::{Finding, WheelSettings};
+
+/// The refusals in the order in which they are tested.
+const ORDER: [u32; 11] = [1, 3, 4, 5, 6, 2, 12, 10, 17, 7, 8];
 
 /// A table as the library is lent it: count, mark, up and forward axis beside it.
+#[derive(Clone)]
 pub struct Lent {
     pub table: Vec<f32>,
     pub whole: [u32; len::WHOLE],
@@ -64,6 +68,51 @@ impl Lent {
             Ok((number, Vec::new()))
         } else {
             Err("a refusal wrote to the results")
+        }
+    }
+}
+
+impl Lent {
+    /// Whether the explanation of the call, on the table before it, finds something for the number that it answered, and for none that is tested
+    /// before that.
+    pub fn is_explained(&self, code: &Code, answer: u32) -> Result<(), String> {
+        for number in ORDER.into_iter().take_while(|number| *number != answer) {
+            if let Some(wrong) = self.explain(code, number) {
+                return Err(format!("answered {answer}, and {number} is explained by: {wrong}"));
+            }
+        }
+        if (answer == 0) == self.explain(code, answer).is_none() {
+            return Ok(());
+        }
+        Err(format!("nothing explains {answer}"))
+    }
+
+    fn explain(&self, code: &Code, answer: u32) -> Option<Finding> {
+        let Lent { table, whole } = self;
+        let results = vec![UNTOUCHED; result_size(code)];
+        match code {
+            Code::End => None,
+            Code::Add(wheel) => help::explain_add_wheel(answer, table, whole, &settings(wheel)),
+            Code::Controls(wheel, controls) => {
+                let explain = match controls.steering {
+                    Steering::Rotation(_) => help::explain_set_controls,
+                    Steering::Angle(_) => help::explain_set_controls_by_angle,
+                };
+                explain(answer, table, whole, *wheel, &controls.handed_in())
+            }
+            Code::Aim(chassis) => {
+                help::explain_aim(answer, table, whole, &chassis.numbers(), &results)
+            }
+            Code::Drive(drive) => {
+                let Lists { bodies, dynamic, kinds, named, rays } = &Lists::of(drive);
+                let dt = drive.dt;
+                help::explain_drive(
+                    answer, table, whole, dt, bodies, dynamic, kinds, named, rays, &results,
+                )
+            }
+            Code::Read(wheel) | Code::ReadSettled(wheel) | Code::ReadAll(wheel) => {
+                help::explain_read_wheel(answer, table, whole, *wheel, &results)
+            }
         }
     }
 }

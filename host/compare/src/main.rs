@@ -1,5 +1,6 @@
 //! The library beside the oracle, in one process: the same calls on the same tables, and after each call the number, every result and every
-//! number of the table held against each other. Both zeros count as equal, and a NaN equals a NaN.
+//! number of the table held against each other. Both zeros count as equal, and a NaN equals a NaN. The explanation of each call is asked too: it
+//! must find a culprit for the number that was answered, and for none that is tested before it.
 //!
 //!     compare-host [--seeds N] [--from S]     N seeds of each kind and of the tables of rubbish, from seed S on
 //!
@@ -46,6 +47,10 @@ fn main() -> ExitCode {
         println!("{wanted} runs asked for, {} compared", tally.runs);
         return ExitCode::FAILURE;
     }
+    println!(
+        "each of {} refusals explained, and no number that is tested before it",
+        tally.refused()
+    );
     println!("compared {} runs of {} calls, 0 differences", tally.runs, tally.calls());
     ExitCode::SUCCESS
 }
@@ -86,6 +91,7 @@ fn run(mut table: Table, mut lent: Lent, codes: &[Code], tally: &mut Tally) -> R
     tally.runs += 1;
     for (place, code) in codes.iter().enumerate() {
         let line = program::call(&mut table, code);
+        let before = lent.clone();
         let (number, results) =
             lent.call(code).map_err(|why| format!("call {place}, {}: {why}", name(code)))?;
         let difference = |what: String| Err(format!("call {place}, {}: {what}", name(code)));
@@ -112,6 +118,7 @@ fn run(mut table: Table, mut lent: Lent, codes: &[Code], tally: &mut Tally) -> R
                 "stored number {at}: the library has {ours}, the oracle {theirs}"
             ));
         }
+        before.is_explained(code, number).or_else(difference)?;
         tally.add(code, &line);
     }
     Ok(())

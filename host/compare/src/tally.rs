@@ -56,6 +56,14 @@ impl Tally {
     pub fn calls(&self) -> u64 {
         self.answers.values().sum()
     }
+
+    pub fn refused(&self) -> u64 {
+        self.answers
+            .iter()
+            .filter(|((_, number), _)| *number != ACCEPTED)
+            .map(|(_, times)| times)
+            .sum()
+    }
 }
 
 impl fmt::Display for Tally {

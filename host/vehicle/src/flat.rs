@@ -1,13 +1,15 @@
 //! The types as the library's flat lists, and back. Each function stands for one list of `ffi::len`, in its order.
 
-use crate::ffi::{kind, len};
+use crate::ffi::{help, kind, len};
 use crate::parts::{
-    Chassis, Controls, GroundBody, Inertia, RayAnswer, Reading, Rotation, Sight, Vector, Velocity,
-    WheelSettings,
+    Chassis, Controls, GroundBody, Inertia, Mount, RayAnswer, Reading, RigidBody, Rotation, Sight,
+    Vector, Velocity, WheelSettings,
 };
 
-/// The place of the wheel count among the whole numbers.
+/// The places of the wheel count and the two axes among the whole numbers.
 pub const COUNT: usize = 0;
+pub const UP: usize = 2;
+pub const FORWARD: usize = 3;
 
 pub fn settings(s: &WheelSettings) -> [f32; len::SETTINGS] {
     let Vector { x: cx, y: cy, z: cz } = s.connection;
@@ -36,6 +38,24 @@ pub fn settings(s: &WheelSettings) -> [f32; len::SETTINGS] {
     ]
 }
 
+pub fn settings_from(n: &[f32; len::SETTINGS]) -> WheelSettings {
+    WheelSettings {
+        connection: vector(n, 0),
+        direction: vector(n, 3),
+        axle: vector(n, 6),
+        rest_length: n[9],
+        radius: n[10],
+        stiffness: n[11],
+        compression: n[12],
+        damping: n[13],
+        travel: n[14],
+        side_stiffness: n[15],
+        slip: n[16],
+        most_force: n[17],
+        roll_influence: n[18],
+    }
+}
+
 /// The controls with this rotation for their steering.
 pub fn controls(c: &Controls, steering: Rotation) -> [f32; len::CONTROLS] {
     let Rotation { x, y, z, w } = steering;
@@ -62,12 +82,62 @@ pub fn chassis(c: &Chassis) -> [f32; len::CHASSIS] {
     ]
 }
 
+pub fn chassis_from(n: &[f32; len::CHASSIS]) -> Chassis {
+    Chassis {
+        translation: vector(n, 0),
+        rotation: Rotation { x: n[3], y: n[4], z: n[5], w: n[6] },
+        centre_of_mass: vector(n, 7),
+        linear_velocity: vector(n, 10),
+        angular_velocity: vector(n, 13),
+        inverse_mass: n[16],
+        effective_inverse_masses: vector(n, 17),
+        inverse_inertia: inertia(n, 20),
+    }
+}
+
 fn body(b: &GroundBody) -> [f32; len::BODY] {
     let Vector { x: cx, y: cy, z: cz } = b.centre_of_mass;
     let Vector { x: lx, y: ly, z: lz } = b.linear_velocity;
     let Vector { x: ax, y: ay, z: az } = b.angular_velocity;
     let Inertia { xx, xy, xz, yy, yz, zz } = b.inverse_inertia;
     [cx, cy, cz, lx, ly, lz, ax, ay, az, b.inverse_mass, xx, xy, xz, yy, yz, zz]
+}
+
+pub fn body_from(n: &[f32; len::BODY], dynamic: bool) -> GroundBody {
+    GroundBody {
+        centre_of_mass: vector(n, 0),
+        linear_velocity: vector(n, 3),
+        angular_velocity: vector(n, 6),
+        inverse_mass: n[9],
+        inverse_inertia: inertia(n, 10),
+        dynamic,
+    }
+}
+
+/// What the makers of `ffi::help` take.
+pub fn rigid_body(b: &RigidBody) -> help::RigidBody {
+    let Inertia { xx, xy, xz, yy, yz, zz } = b.local_inertia;
+    let Rotation { x, y, z, w } = b.rotation;
+    help::RigidBody {
+        mass: b.mass,
+        local_centre_of_mass: b.local_centre_of_mass.into(),
+        local_inertia: [xx, xy, xz, yy, yz, zz],
+        position: b.position.into(),
+        rotation: [x, y, z, w],
+        linear_velocity: b.linear_velocity.into(),
+        angular_velocity: b.angular_velocity.into(),
+        locked: b.locked.map(u32::from),
+    }
+}
+
+pub fn mount(m: &Mount) -> help::Mount {
+    help::Mount {
+        connection: m.connection.into(),
+        direction: m.direction.into(),
+        axle: m.axle.into(),
+        rest_length: m.rest_length,
+        radius: m.radius,
+    }
 }
 
 /// The lists of a drive.
@@ -120,6 +190,10 @@ fn ray(answer: &RayAnswer) -> [f32; len::RAY] {
 
 fn vector(numbers: &[f32], place: usize) -> Vector {
     Vector::new(numbers[place], numbers[place + 1], numbers[place + 2])
+}
+
+fn inertia(numbers: &[f32], place: usize) -> Inertia {
+    Inertia::from(std::array::from_fn::<f32, 6, _>(|i| numbers[place + i]))
 }
 
 /// The sights behind the speed.

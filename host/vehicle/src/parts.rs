@@ -1,6 +1,8 @@
-//! What a host hands in and gets back.
+//! What a host hands in and gets back. Units, frames and signs of every number are told in docs/NUMBERS.md.
 
-/// Three numbers.
+use crate::{ffi::help, flat};
+
+/// Three numbers. `Vector::from([x, y, z])` takes an array.
 #[derive(Clone, Copy, Debug, Default, PartialEq)]
 #[allow(missing_docs)]
 pub struct Vector {
@@ -19,6 +21,18 @@ impl Vector {
     }
 }
 
+impl From<[f32; 3]> for Vector {
+    fn from([x, y, z]: [f32; 3]) -> Self {
+        Vector { x, y, z }
+    }
+}
+
+impl From<Vector> for [f32; 3] {
+    fn from(Vector { x, y, z }: Vector) -> Self {
+        [x, y, z]
+    }
+}
+
 /// A rotation, as a quaternion of unit length.
 #[derive(Clone, Copy, Debug, PartialEq)]
 #[allow(missing_docs)]
@@ -32,6 +46,11 @@ pub struct Rotation {
 impl Rotation {
     /// No turn.
     pub const IDENTITY: Rotation = Rotation { x: 0.0, y: 0.0, z: 0.0, w: 1.0 };
+
+    /// The rotation of an array that has w last.
+    pub const fn xyzw([x, y, z, w]: [f32; 4]) -> Self {
+        Rotation { x, y, z, w }
+    }
 }
 
 impl Default for Rotation {
@@ -40,7 +59,7 @@ impl Default for Rotation {
     }
 }
 
-/// An inverse inertia in world space: the six numbers of a symmetric three by three array.
+/// An inertia or its inverse: the six numbers of a symmetric three by three array.
 #[derive(Clone, Copy, Debug, Default, PartialEq)]
 #[allow(missing_docs)]
 pub struct Inertia {
@@ -50,6 +69,95 @@ pub struct Inertia {
     pub yy: f32,
     pub yz: f32,
     pub zz: f32,
+}
+
+impl Inertia {
+    /// That of a solid box of this mass, along its own axes, `size` being its lengths along them.
+    pub fn of_box(mass: f32, size: Vector) -> Self {
+        Inertia::from(help::make_box_inertia(mass, &size.into()))
+    }
+
+    /// One whose axes are the body's own.
+    pub const fn diagonal(xx: f32, yy: f32, zz: f32) -> Self {
+        Inertia { xx, xy: 0.0, xz: 0.0, yy, yz: 0.0, zz }
+    }
+}
+
+impl From<[f32; 6]> for Inertia {
+    fn from([xx, xy, xz, yy, yz, zz]: [f32; 6]) -> Self {
+        Inertia { xx, xy, xz, yy, yz, zz }
+    }
+}
+
+/// A rigid body as a host has it, in SI units: mass and inertia themselves, the centre of mass and the inertia along the body's own axes. What
+/// it makes is in world space.
+#[derive(Clone, Copy, Debug, PartialEq)]
+pub struct RigidBody {
+    /// In kg.
+    pub mass: f32,
+    /// From the position, along the body's own axes.
+    pub local_centre_of_mass: Vector,
+    /// About the centre of mass, along the body's own axes.
+    pub local_inertia: Inertia,
+    /// Where the body's origin is in the world.
+    pub position: Vector,
+    /// How it is turned.
+    pub rotation: Rotation,
+    /// Of the centre of mass, in the world.
+    pub linear_velocity: Vector,
+    /// In the world.
+    pub angular_velocity: Vector,
+    /// Along which axes of the world it cannot move.
+    pub locked: [bool; 3],
+}
+
+impl RigidBody {
+    /// A body of this mass and inertia, free, at rest at the origin.
+    pub const fn new(mass: f32, local_inertia: Inertia) -> Self {
+        RigidBody {
+            mass,
+            local_centre_of_mass: Vector::ZERO,
+            local_inertia,
+            position: Vector::ZERO,
+            rotation: Rotation::IDENTITY,
+            linear_velocity: Vector::ZERO,
+            angular_velocity: Vector::ZERO,
+            locked: [false; 3],
+        }
+    }
+
+    /// It as the chassis of an aim.
+    pub fn chassis(&self) -> Chassis {
+        flat::chassis_from(&help::make_chassis(&flat::rigid_body(self)))
+    }
+
+    /// It as a dynamic ground body of a drive.
+    pub fn ground(&self) -> GroundBody {
+        flat::body_from(&help::make_ground(&flat::rigid_body(self)), true)
+    }
+}
+
+/// Where a wheel is fixed to the chassis, along the chassis' own axes.
+#[derive(Clone, Copy, Debug, PartialEq)]
+pub struct Mount {
+    /// Where the suspension is fixed.
+    pub connection: Vector,
+    /// Where the suspension points: down. Of any length but zero.
+    pub direction: Vector,
+    /// The axle. Of any length but zero; which way it points decides which way an engine drives.
+    pub axle: Vector,
+    /// The suspension's length at rest.
+    pub rest_length: f32,
+    /// The wheel's radius.
+    pub radius: f32,
+}
+
+impl Mount {
+    /// A wheel there with the Rust source's tuning and roll influence, its direction and its axle made unit length. Change the tuning as
+    /// `WheelSettings { stiffness, ..mount.wheel() }`.
+    pub fn wheel(&self) -> WheelSettings {
+        flat::settings_from(&help::make_wheel(&flat::mount(self)))
+    }
 }
 
 /// An axis of the chassis.
@@ -96,38 +204,13 @@ pub struct WheelSettings {
 impl WheelSettings {
     /// The roll influence that the Rust source gives every wheel.
     pub const ROLL_INFLUENCE: f32 = 0.1;
-
-    /// A wheel with the Rust source's default tuning and its roll influence.
-    pub const fn new(
-        connection: Vector,
-        direction: Vector,
-        axle: Vector,
-        rest_length: f32,
-        radius: f32,
-    ) -> Self {
-        WheelSettings {
-            connection,
-            direction,
-            axle,
-            rest_length,
-            radius,
-            stiffness: 5.88,
-            compression: 0.83,
-            damping: 0.88,
-            travel: 5.0,
-            side_stiffness: 1.0,
-            slip: 10.5,
-            most_force: 6000.0,
-            roll_influence: WheelSettings::ROLL_INFLUENCE,
-        }
-    }
 }
 
 /// How one wheel is steered.
 #[derive(Clone, Copy, Debug, PartialEq)]
 pub enum Steering {
     /// By an angle in radians, from -2 to 2. Each aim turns the axle by it about minus the wheel's direction in the world, so that the wheel
-    /// stays steered when the chassis turns. Which way is positive: `vehicle_set_controls_by_angle` in `vehicle.h` has an example in numbers.
+    /// stays steered when the chassis turns. Positive is to the left where the suspension points down.
     Angle(f32),
     /// By a rotation in world space. Set it anew before the aim when the chassis has turned.
     Rotation(Rotation),
@@ -219,6 +302,18 @@ pub enum RayAnswer {
     /// A hit for which the ray was also cast upward, from its end, against the same shape: `upward` is the normal met there. The library
     /// uses it where the time is 0, a ray that starts inside the shape; its length is tested at every time, and it is never zero.
     HitUp { time: f32, normal: Vector, upward: Vector, body: Option<u32> },
+}
+
+impl RayAnswer {
+    /// What a cast met at this distance from the sight's start, in the unit of the world; beyond the ray's end it is nothing.
+    pub fn at_distance(sight: &Sight, distance: f32, normal: Vector, body: Option<u32>) -> Self {
+        let time = help::make_time(&sight.ray.into(), distance);
+        if time > 1.0 {
+            RayAnswer::Nothing
+        } else {
+            RayAnswer::Hit { time, normal, body }
+        }
+    }
 }
 
 /// What a drive gives.

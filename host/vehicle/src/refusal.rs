@@ -3,8 +3,51 @@
 use std::error::Error;
 use std::fmt;
 
-/// Why a call was refused: document 01's numbers, 12 of change request 2026-03 and 17 of 2026-11. The vehicle is then as it was before the
-/// call.
+use crate::ffi::help::Finding;
+
+/// A refused call: the refusal, and which number made it. The vehicle is then as it was before the call.
+#[derive(Clone, Debug, PartialEq)]
+pub struct Refused {
+    /// Which refusal it is.
+    pub refusal: Refusal,
+    /// Which wheel, field and value broke which bound, and what to do.
+    pub culprit: Option<Finding>,
+}
+
+impl Refused {
+    /// Nothing for 0; else the refusal of this number, explained. The explanation is asked for only here.
+    pub(crate) fn unless_accepted(
+        number: u32,
+        explain: impl FnOnce() -> Option<Finding>,
+    ) -> Result<(), Refused> {
+        Refusal::unless_accepted(number).map_err(|refusal| Refused { refusal, culprit: explain() })
+    }
+}
+
+impl fmt::Display for Refused {
+    fn fmt(&self, f: &mut fmt::Formatter<'_>) -> fmt::Result {
+        match &self.culprit {
+            Some(culprit) => write!(f, "refused ({}): {culprit}", self.refusal.number()),
+            None => self.refusal.fmt(f),
+        }
+    }
+}
+
+impl Error for Refused {}
+
+/// Bytes that are not a vehicle which this library saved, and why.
+#[derive(Clone, Copy, Debug, PartialEq, Eq)]
+pub struct NotSaved(pub(crate) &'static str);
+
+impl fmt::Display for NotSaved {
+    fn fmt(&self, f: &mut fmt::Formatter<'_>) -> fmt::Result {
+        f.write_str(self.0)
+    }
+}
+
+impl Error for NotSaved {}
+
+/// Which refusal a call gave. `docs/RULES.md` has each of them in full.
 #[derive(Clone, Copy, Debug, PartialEq, Eq)]
 #[non_exhaustive]
 pub enum Refusal {
@@ -34,96 +77,62 @@ pub enum Refusal {
     Other(u32),
 }
 
+/// Each refusal with its number.
+const NUMBERS: [(u32, Refusal); 11] = [
+    (1, Refusal::NoVehicle),
+    (2, Refusal::BadNumber),
+    (3, Refusal::Full),
+    (4, Refusal::NoSuchWheel),
+    (5, Refusal::WrongMoment),
+    (6, Refusal::BadLists),
+    (7, Refusal::WildGrip),
+    (8, Refusal::WildStep),
+    (10, Refusal::OutOfRange),
+    (12, Refusal::BadNormal),
+    (17, Refusal::BadTurn),
+];
+
 impl Refusal {
     /// The refusal of this number; 0 is none.
     pub fn unless_accepted(number: u32) -> Result<(), Refusal> {
-        Err(match number {
-            0 => return Ok(()),
-            1 => Refusal::NoVehicle,
-            2 => Refusal::BadNumber,
-            3 => Refusal::Full,
-            4 => Refusal::NoSuchWheel,
-            5 => Refusal::WrongMoment,
-            6 => Refusal::BadLists,
-            7 => Refusal::WildGrip,
-            8 => Refusal::WildStep,
-            10 => Refusal::OutOfRange,
-            12 => Refusal::BadNormal,
-            17 => Refusal::BadTurn,
-            other => Refusal::Other(other),
-        })
-    }
-
-    /// Document 01's number.
-    pub fn number(self) -> u32 {
-        match self {
-            Refusal::NoVehicle => 1,
-            Refusal::BadNumber => 2,
-            Refusal::Full => 3,
-            Refusal::NoSuchWheel => 4,
-            Refusal::WrongMoment => 5,
-            Refusal::BadLists => 6,
-            Refusal::WildGrip => 7,
-            Refusal::WildStep => 8,
-            Refusal::OutOfRange => 10,
-            Refusal::BadNormal => 12,
-            Refusal::BadTurn => 17,
-            Refusal::Other(number) => number,
+        if number == 0 {
+            return Ok(());
         }
+        let known = NUMBERS.iter().find(|(known, _)| *known == number);
+        Err(known.map_or(Refusal::Other(number), |(_, refusal)| *refusal))
     }
 
-    /// What went wrong, and what to do about it.
+    /// Its number.
+    pub fn number(self) -> u32 {
+        if let Refusal::Other(number) = self {
+            return number;
+        }
+        NUMBERS.iter().find(|(_, refusal)| *refusal == self).map_or(0, |(number, _)| *number)
+    }
+
+    /// What it is, where no call is at hand to name the culprit.
     fn words(self) -> &'static str {
         match self {
             Refusal::NoVehicle => {
-                "this memory does not hold a car: it was never set up, or something else has written over it. \
-                 Set the car up again before its wheels are added."
+                "the lent numbers are no vehicle, or a list has the wrong length."
             }
             Refusal::BadNumber => {
-                "a value is broken or far too large: not a number, infinite, or beyond a million (2^20). \
-                 Look at the wheel settings, controls, chassis and hits of this frame for a value that ran away. \
-                 If they are all sound, the car itself has run away in an earlier frame: set it up again."
+                "a number handed in is not finite or above 2^20, or a stored one above 2^40."
             }
-            Refusal::Full => "this car already has 16 wheels, and there is room for no more. Leave the extra wheel out.",
-            Refusal::NoSuchWheel => {
-                "this car has no wheel of that number. Wheels count from 0 in the order in which they were added, \
-                 so a car with four wheels has 0, 1, 2 and 3."
-            }
-            Refusal::WrongMoment => {
-                "it is too early. A car must be aimed before it is driven, and driven before its tyres are read; \
-                 a new wheel, and a new aim, ask for a new drive. Move this step behind the drive of the same frame."
-            }
-            Refusal::BadLists => {
-                "what the rays met does not fit the car. Give one answer for each wheel, in the wheels' order; \
-                 each hit at a time from 0 to 1, on a ground body that is in the list, or on none; \
-                 at most 64 ground bodies."
-            }
-            Refusal::WildGrip => {
-                "a tyre would have to push beyond all measure. The springs are far too stiff for this weight, \
-                 or the car is moving far too fast into the ground. Lower the stiffness, the slip or the speed."
-            }
-            Refusal::WildStep => {
-                "this step would throw the car beyond all measure. Look for a very light chassis, very stiff springs, \
-                 a very small radius or a very high speed, and bring it back to a sensible size."
-            }
-            Refusal::OutOfRange => {
-                "a setting is outside what it may be. A radius must be above 0; lengths, stiffness, dampings, grip, forces and \
-                 brake at least 0; a rotation of length one; a steering angle from -2 to 2 radians, not degrees; \
-                 a roll influence from 0 to 1; \
-                 the time step from 0 to 1 second; \
-                 the chassis neither weightless nor without end heavy; a ground body's inverse mass at least 0."
-            }
-            Refusal::BadNormal => {
-                "a normal of the ground is not one unit long: the set was scaled, or its normals were never brought to length one. \
-                 Normalise every normal of this frame's hits, that of the upward cast too. \
-                 Only a ray that starts inside the ground, at time 0, may come with a normal of zeros."
-            }
+            Refusal::Full => "the vehicle has 16 wheels already.",
+            Refusal::NoSuchWheel => "the vehicle has no wheel of this number.",
+            Refusal::WrongMoment => "a drive without an aim, or a read without a drive.",
+            Refusal::BadLists => "the ray answers and ground bodies do not fit the vehicle.",
+            Refusal::WildGrip => "a tyre's demand or grip limit would be above 2^40.",
+            Refusal::WildStep => "the call would store a number above 2^40.",
+            Refusal::OutOfRange => "a setting is out of its range.",
+            Refusal::BadNormal => "a normal of the ground is not of length one.",
             Refusal::BadTurn => {
-                "a wheel that is steered by an angle has no suspension direction to turn about: it is zero, or far too short. \
-                 Add the wheel with a direction of about length one, down from the chassis, \
-                 or steer it by a rotation, which needs none."
+                "a wheel that is steered by an angle has no suspension direction to turn about."
             }
-            Refusal::Other(_) => "the library gave a reason that this program does not know: the library is newer than the program.",
+            Refusal::Other(_) => {
+                "the library is newer than this program, which does not know the number."
+            }
         }
     }
 }

@@ -1,12 +1,17 @@
 //! The small car of host/c/hand_worked.c through the typed calls: two frames worked out by hand, and the moments at which nothing can be read.
 
 use vehicle_controller::{
-    Axis, Chassis, Controls, GroundBody, Inertia, RayAnswer, Refusal, Rotation, Steering, Vector,
-    Vehicle, Velocity, WheelSettings,
+    Axis, Chassis, Controls, GroundBody, Inertia, Mount, RayAnswer, Refusal, Refused, Rotation,
+    Steering, Vector, Vehicle, Velocity, WheelSettings,
 };
 
 const UP: Vector = Vector::new(0.0, 1.0, 0.0);
 const FLOOR: RayAnswer = RayAnswer::Hit { time: 0.75, normal: UP, body: None };
+
+/// A reply without the words of its refusal.
+fn plain<T, E: Into<Refused>>(reply: Result<T, E>) -> Result<T, Refusal> {
+    reply.map_err(|refused| refused.into().refusal)
+}
 
 fn wheel(x: f32, z: f32, slip: f32) -> WheelSettings {
     WheelSettings {
@@ -26,7 +31,7 @@ fn wheel(x: f32, z: f32, slip: f32) -> WheelSettings {
     }
 }
 
-fn car() -> Result<Vehicle, Refusal> {
+fn car() -> Result<Vehicle, Refused> {
     let mut car = Vehicle::new(Axis::Y, Axis::X)?;
     for (x, z, slip) in
         [(1.0, 1.0, 0.3125), (1.0, -1.0, 0.3125), (-1.0, 1.0, 0.3125), (-1.0, -1.0, 8.0)]
@@ -44,7 +49,7 @@ fn chassis(linear_velocity: Vector) -> Chassis {
 }
 
 #[test]
-fn a_frame_on_the_ground() -> Result<(), Refusal> {
+fn a_frame_on_the_ground() -> Result<(), Refused> {
     let mut car = car()?;
     let aimed = car.aim(&chassis(Vector::new(12.0, 0.0, 5.0)))?;
     assert_eq!(aimed.speed(), 13.0);
@@ -62,12 +67,12 @@ fn a_frame_on_the_ground() -> Result<(), Refusal> {
     assert_eq!((tyre.length, tyre.force), (0.5, 16.0));
     assert_eq!((tyre.forward, tyre.side, tyre.skid, tyre.rotation), (3.0, -2.0, 0.5, 6.0));
     assert_eq!(driven.read(3)?.skid, 1.0);
-    assert_eq!(driven.read(4), Err(Refusal::NoSuchWheel));
+    assert_eq!(plain(driven.read(4)), Err(Refusal::NoSuchWheel));
     Ok(())
 }
 
 #[test]
-fn a_frame_in_the_air_after_it() -> Result<(), Refusal> {
+fn a_frame_in_the_air_after_it() -> Result<(), Refused> {
     let mut car = car()?;
     car.aim(&chassis(Vector::new(12.0, 0.0, 5.0)))?.drive(0.5, &[], &[FLOOR; 4])?;
     let aimed = car.aim(&chassis(Vector::new(-12.0, 0.0, 5.0)))?;
@@ -83,7 +88,7 @@ fn a_frame_in_the_air_after_it() -> Result<(), Refusal> {
 }
 
 #[test]
-fn a_wheel_on_a_moving_body() -> Result<(), Refusal> {
+fn a_wheel_on_a_moving_body() -> Result<(), Refused> {
     let mut car = car()?;
     let raft = GroundBody {
         linear_velocity: Vector::new(0.0, 0.0, 5.0),
@@ -99,7 +104,7 @@ fn a_wheel_on_a_moving_body() -> Result<(), Refusal> {
 }
 
 #[test]
-fn a_hit_from_inside_takes_the_upward_normal() -> Result<(), Refusal> {
+fn a_hit_from_inside_takes_the_upward_normal() -> Result<(), Refused> {
     let mut car = car()?;
     let down = Vector::new(0.0, -1.0, 0.0);
     let inside = RayAnswer::HitUp { time: 0.0, normal: Vector::ZERO, upward: down, body: None };
@@ -114,7 +119,7 @@ fn a_hit_from_inside_takes_the_upward_normal() -> Result<(), Refusal> {
 /// Two wheels at one place, pushed sideways by 2 each, 1 below the centre of mass: each turns the chassis about x by its own roll influence.
 /// Worked out in host/c/hand_worked.c.
 #[test]
-fn each_wheel_leans_by_its_own_roll_influence() -> Result<(), Refusal> {
+fn each_wheel_leans_by_its_own_roll_influence() -> Result<(), Refused> {
     let leaned = |first: f32, second: f32| {
         let mut car = Vehicle::new(Axis::Y, Axis::X)?;
         for roll_influence in [first, second] {
@@ -125,29 +130,29 @@ fn each_wheel_leans_by_its_own_roll_influence() -> Result<(), Refusal> {
             linear_velocity: Vector::new(0.0, 0.0, 5.0),
             ..Chassis::at_rest(0.25, Inertia { xx: 0.5, ..Inertia::default() })
         };
-        Ok(car.aim(&chassis)?.drive(0.5, &[], &[FLOOR; 2])?.velocity().angular.x)
+        Ok::<f32, Refused>(car.aim(&chassis)?.drive(0.5, &[], &[FLOOR; 2])?.velocity().angular.x)
     };
     assert_eq!(leaned(0.0, 0.0), Ok(0.0));
     assert_eq!(leaned(1.0, 0.25), Ok(1.25));
     assert_eq!(leaned(0.25, 1.0), Ok(1.25));
     for wrong in [-f32::from_bits(1), 1.0 + f32::EPSILON] {
-        assert_eq!(leaned(0.5, wrong), Err(Refusal::OutOfRange), "{wrong}");
+        assert_eq!(plain(leaned(0.5, wrong)), Err(Refusal::OutOfRange), "{wrong}");
     }
-    assert_eq!(leaned(f32::NAN, 0.5), Err(Refusal::BadNumber));
-    let usual = WheelSettings::new(Vector::ZERO, UP, UP, 1.0, 1.0).roll_influence;
-    assert_eq!(usual.to_bits(), 0x3DCC_CCCD, "the Rust source's 0.1");
+    assert_eq!(plain(leaned(f32::NAN, 0.5)), Err(Refusal::BadNumber));
+    let mount = Mount { connection: UP, direction: UP, axle: UP, rest_length: 1.0, radius: 1.0 };
+    assert_eq!(mount.wheel().roll_influence.to_bits(), 0x3DCC_CCCD, "the Rust source's 0.1");
     Ok(())
 }
 
 /// One wheel with this axle that brakes, on a chassis that moves by (12, 0, 5), and its ground. Worked out in host/c/hand_worked.c.
 #[test]
-fn a_tyre_without_a_direction_says_so() -> Result<(), Refusal> {
+fn a_tyre_without_a_direction_says_so() -> Result<(), Refused> {
     let read = |axle: Vector, controls: Controls, ground: RayAnswer| {
         let mut car = Vehicle::new(Axis::Y, Axis::X)?;
         car.add_wheel(&WheelSettings { axle, ..wheel(0.0, 0.0, 8.0) })?;
         car.set_controls(0, &controls)?;
         let driven = car.aim(&chassis(Vector::new(12.0, 0.0, 5.0)))?.drive(0.5, &[], &[ground])?;
-        Ok::<_, Refusal>((driven.velocity().linear, driven.read(0)?))
+        Ok::<_, Refused>((driven.velocity().linear, driven.read(0)?))
     };
     let brake = Controls { brake: 6.0, ..Controls::default() };
     let floor_of =
@@ -182,14 +187,14 @@ fn steered_by(angle: f32) -> Controls {
 const THIRD: Rotation = Rotation { x: 0.5, y: 0.5, z: 0.5, w: 0.5 };
 
 /// A car of one wheel that hangs by this direction.
-fn unicycle(direction: Vector) -> Result<Vehicle, Refusal> {
+fn unicycle(direction: Vector) -> Result<Vehicle, Refused> {
     let mut car = Vehicle::new(Axis::Y, Axis::X)?;
     car.add_wheel(&WheelSettings { direction, ..wheel(0.0, 0.0, 8.0) })?;
     Ok(car)
 }
 
 /// The axle after a frame in the air.
-fn axle_of(car: &mut Vehicle, rotation: Rotation) -> Result<Vector, Refusal> {
+fn axle_of(car: &mut Vehicle, rotation: Rotation) -> Result<Vector, Refused> {
     let chassis = Chassis { rotation, ..chassis(Vector::ZERO) };
     Ok(car.aim(&chassis)?.drive(0.5, &[], &[RayAnswer::Nothing])?.read(0)?.axle)
 }
@@ -199,9 +204,9 @@ fn is_near(vector: Vector, x: f32, y: f32, z: f32) -> bool {
     near(vector.x, x) && near(vector.y, y) && near(vector.z, z)
 }
 
-/// The example of vehicle.h, and the same angle the other way.
+/// The example of docs/NUMBERS.md, and the same angle the other way.
 #[test]
-fn a_positive_angle_turns_toward_minus_z() -> Result<(), Refusal> {
+fn a_positive_angle_turns_toward_minus_z() -> Result<(), Refused> {
     for (angle, sine) in [(0.5, 0.479_426), (-0.5, -0.479_426)] {
         let mut car = unicycle(Vector::new(0.0, -1.0, 0.0))?;
         car.set_controls(0, &Controls { engine: 12.0, ..steered_by(angle) })?;
@@ -217,7 +222,7 @@ fn a_positive_angle_turns_toward_minus_z() -> Result<(), Refusal> {
 
 /// How long the direction is does not matter, and angle 0 leaves the axle as it is.
 #[test]
-fn an_angle_turns_by_itself_alone() -> Result<(), Refusal> {
+fn an_angle_turns_by_itself_alone() -> Result<(), Refused> {
     let turned = |length: f32, angle: f32| {
         let mut car = unicycle(Vector::new(0.0, -length, 0.0))?;
         car.set_controls(0, &steered_by(angle))?;
@@ -237,7 +242,7 @@ fn an_angle_turns_by_itself_alone() -> Result<(), Refusal> {
 
 /// The wheel stays steered with no new control; a rotation stays in the world.
 #[test]
-fn a_chassis_that_turns_takes_an_angle_along() -> Result<(), Refusal> {
+fn a_chassis_that_turns_takes_an_angle_along() -> Result<(), Refused> {
     let mut car = unicycle(Vector::new(0.0, -1.0, 0.0))?;
     car.set_controls(0, &steered_by(1.0))?;
     let Vector { x, y, z } = axle_of(&mut car, Rotation::IDENTITY)?;
@@ -257,7 +262,7 @@ fn shown(car: &Vehicle) -> String {
 }
 
 #[test]
-fn an_angle_is_from_minus_two_to_two() -> Result<(), Refusal> {
+fn an_angle_is_from_minus_two_to_two() -> Result<(), Refused> {
     let mut car = car()?;
     car.set_controls(0, &steered_by(-2.0))?;
     car.set_controls(0, &steered_by(2.0))?;
@@ -271,23 +276,23 @@ fn an_angle_is_from_minus_two_to_two() -> Result<(), Refusal> {
         (f32::NEG_INFINITY, Refusal::BadNumber),
         (2_097_152.0, Refusal::BadNumber),
     ] {
-        assert_eq!(car.set_controls(0, &steered_by(angle)), Err(refusal), "{angle}");
+        assert_eq!(plain(car.set_controls(0, &steered_by(angle))), Err(refusal), "{angle}");
         assert_eq!(shown(&car), before, "{angle}");
     }
-    assert_eq!(car.set_controls(4, &steered_by(0.0)), Err(Refusal::NoSuchWheel));
+    assert_eq!(plain(car.set_controls(4, &steered_by(0.0))), Err(Refusal::NoSuchWheel));
     car.aim(&chassis(Vector::ZERO))?;
     Ok(())
 }
 
 #[test]
-fn an_angle_needs_a_direction() -> Result<(), Refusal> {
+fn an_angle_needs_a_direction() -> Result<(), Refused> {
     for direction in [Vector::ZERO, Vector::new(0.0, -1e-30, 0.0)] {
         let mut car = unicycle(direction)?;
         car.aim(&chassis(Vector::ZERO))?;
         for angle in [0.0, 1.0] {
             car.set_controls(0, &steered_by(angle))?;
             let before = shown(&car);
-            let refusal = car.aim(&chassis(Vector::new(12.0, 0.0, 5.0))).err();
+            let refusal = plain(car.aim(&chassis(Vector::new(12.0, 0.0, 5.0)))).err();
             assert_eq!(refusal, Some(Refusal::BadTurn));
             assert_eq!(shown(&car), before);
         }
@@ -298,15 +303,15 @@ fn an_angle_needs_a_direction() -> Result<(), Refusal> {
 }
 
 #[test]
-fn the_plain_calls_refuse_at_a_wrong_moment() -> Result<(), Refusal> {
+fn the_plain_calls_refuse_at_a_wrong_moment() -> Result<(), Refused> {
     let mut car = car()?;
-    assert_eq!(car.read_wheel(0), Err(Refusal::WrongMoment));
-    assert_eq!(car.drive(0.5, &[], &[FLOOR; 4]), Err(Refusal::WrongMoment));
+    assert_eq!(plain(car.read_wheel(0)), Err(Refusal::WrongMoment));
+    assert_eq!(plain(car.drive(0.5, &[], &[FLOOR; 4])), Err(Refusal::WrongMoment));
     car.aim(&chassis(Vector::ZERO))?;
-    assert_eq!(car.read_wheel(0), Err(Refusal::WrongMoment));
+    assert_eq!(plain(car.read_wheel(0)), Err(Refusal::WrongMoment));
     car.set_controls(0, &Controls::default())?;
     assert_eq!(
-        car.drive(0.5, &[], &[FLOOR; 4]),
+        plain(car.drive(0.5, &[], &[FLOOR; 4])),
         Err(Refusal::WrongMoment),
         "controls ask for a new aim"
     );
@@ -316,27 +321,31 @@ fn the_plain_calls_refuse_at_a_wrong_moment() -> Result<(), Refusal> {
     car.set_controls(0, &Controls::default())?;
     car.read_wheel(0)?;
     car.add_wheel(&wheel(0.0, 0.0, 1.0))?;
-    assert_eq!(car.read_wheel(0), Err(Refusal::WrongMoment), "a new wheel asks for a new drive");
+    assert_eq!(
+        plain(car.read_wheel(0)),
+        Err(Refusal::WrongMoment),
+        "a new wheel asks for a new drive"
+    );
     Ok(())
 }
 
 #[test]
-fn refusals_through_the_typed_calls() -> Result<(), Refusal> {
+fn refusals_through_the_typed_calls() -> Result<(), Refused> {
     let mut car = car()?;
     assert_eq!(
-        car.add_wheel(&WheelSettings { radius: 0.0, ..wheel(0.0, 0.0, 1.0) }),
+        plain(car.add_wheel(&WheelSettings { radius: 0.0, ..wheel(0.0, 0.0, 1.0) })),
         Err(Refusal::OutOfRange)
     );
-    assert_eq!(car.set_controls(4, &Controls::default()), Err(Refusal::NoSuchWheel));
+    assert_eq!(plain(car.set_controls(4, &Controls::default())), Err(Refusal::NoSuchWheel));
     assert_eq!(
-        car.set_controls(0, &Controls { engine: f32::NAN, ..Controls::default() }),
+        plain(car.set_controls(0, &Controls { engine: f32::NAN, ..Controls::default() })),
         Err(Refusal::BadNumber)
     );
     let start = chassis(Vector::ZERO);
     let over = |answers: &[RayAnswer], bodies: &[GroundBody]| {
         let mut car = car.clone();
-        let refusal = car.aim(&start)?.drive(0.5, bodies, answers).err();
-        Ok::<_, Refusal>(refusal)
+        let refusal = plain(car.aim(&start)?.drive(0.5, bodies, answers)).err();
+        Ok::<_, Refused>(refusal)
     };
     let unlisted = |body| RayAnswer::Hit { time: 0.5, normal: UP, body: Some(body) };
     assert_eq!(over(&[FLOOR; 3], &[])?, Some(Refusal::BadLists));
@@ -350,7 +359,7 @@ fn refusals_through_the_typed_calls() -> Result<(), Refusal> {
     for _ in 4..16 {
         car.add_wheel(&wheel(0.0, 0.0, 1.0))?;
     }
-    assert_eq!(car.add_wheel(&wheel(0.0, 0.0, 1.0)), Err(Refusal::Full));
+    assert_eq!(plain(car.add_wheel(&wheel(0.0, 0.0, 1.0))), Err(Refusal::Full));
     Ok(())
 }
 

@@ -1,6 +1,6 @@
 //! The sizes and places that this crate and the C header name, held to the library.
 
-use vehicle_controller::ffi::{self, kind, len};
+use vehicle_controller::ffi::{self, help, kind, len};
 use vehicle_controller::WheelSettings;
 
 /// A size here, in the library, and its macro in the header.
@@ -20,11 +20,12 @@ fn sizes() -> [(usize, u32, &'static str); 11] {
     ]
 }
 
-/// The value of a macro of the header, as it is written there.
+/// The value of a macro of the headers, as it is written there.
 fn macro_text(name: &str) -> &'static str {
-    let header = include_str!("../../include/vehicle.h");
-    let line =
-        header.lines().find_map(|line| line.strip_prefix(&format!("#define {name} "))).expect(name);
+    let headers =
+        [include_str!("../../include/vehicle.h"), include_str!("../../include/vehicle_help.h")];
+    let mut lines = headers.into_iter().flat_map(str::lines);
+    let line = lines.find_map(|line| line.strip_prefix(&format!("#define {name} "))).expect(name);
     line.split_whitespace().next().expect(name)
 }
 
@@ -46,6 +47,11 @@ fn sizes_here_are_those_of_the_library_and_the_header() {
     assert_eq!(kind::HIT as usize, macro_value("VEHICLE_HIT"));
     assert_eq!(kind::HIT_UP as usize, macro_value("VEHICLE_HIT_UP"));
     assert_eq!(macro_text("VEHICLE_ROLL_INFLUENCE"), format!("{}f", WheelSettings::ROLL_INFLUENCE));
+    assert_eq!(help::BOUND, macro_value("VEHICLE_BOUND_LEN"));
+    assert_eq!(help::WORDS, macro_value("VEHICLE_WORDS_LEN"));
+    let saved = "#define VEHICLE_SAVED_LEN (20 + 4 * (VEHICLE_TABLE_LEN + VEHICLE_WHOLE_LEN) + 4)";
+    assert!(include_str!("../../include/vehicle_help.h").lines().any(|line| line == saved));
+    assert_eq!(help::SAVED, 20 + 4 * (len::TABLE + len::WHOLE) + 4);
 }
 
 #[test]

@@ -1,15 +1,18 @@
 //! One sweep over what a host can get wrong: every float field of every call, every length, every whole number of a table, every stored number
-//! of a used row, every moment. Each is answered by its number of document 01, and a refusal leaves every bit that was lent as it was.
+//! of a used row, every moment. Each is answered by its number of document 01, and a refusal leaves every bit that was lent as it was. Each
+//! refusal has its explanation, which names the number that was spoilt; and no number that comes before the answer, in the order in which they
+//! are tested, has one.
 
 mod lent;
 
-use std::collections::BTreeMap;
+use std::collections::{BTreeMap, BTreeSet};
 
 use lent::{
     accepted, by_angle, chassis, controls, drive, moments, settings, Call, Drive, Lent, BY_ANGLE,
     FORWARD, MARK, UP, WHEELS,
 };
 use vehicle_controller::ffi::{kind, len};
+use vehicle_controller::Finding;
 
 const HANDED: f32 = 1_048_576.0; // 2^20
 const STORED: f32 = 1_099_511_627_776.0; // 2^40
@@ -32,13 +35,37 @@ fn bad(bound: f32) -> [f32; 5] {
     [f32::NAN, f32::INFINITY, f32::NEG_INFINITY, beyond, -beyond]
 }
 
+/// The refusals in the order in which they are tested.
+const ORDER: [u32; 11] = [1, 3, 4, 5, 6, 2, 12, 10, 17, 7, 8];
+
 /// How often each number was met.
 #[derive(Default)]
 struct Swept(BTreeMap<u32, usize>);
 
+/// That the explanation of a call finds something for its answer, and for no number that is tested before it.
+fn explained(what: &str, state: &Lent, call: &Call, answer: u32) -> Option<Finding> {
+    for number in ORDER.into_iter().take_while(|number| *number != answer) {
+        let wrong = state.explain(number, call);
+        assert!(
+            wrong.is_none(),
+            "{what}: answered {answer}, and {number} is explained by {wrong:?}"
+        );
+    }
+    let culprit = state.explain(answer, call);
+    assert_eq!(culprit.is_some(), answer != 0, "{what}: {answer} is not explained");
+    culprit
+}
+
+/// That this number is the culprit, a NaN being equal to a NaN.
+fn is_to_blame(what: &str, culprit: Option<Finding>, value: f32) {
+    let Some(found) = culprit else { return };
+    let (ours, theirs) = (found.value, f64::from(value));
+    assert!(ours == theirs || ours.is_nan() && theirs.is_nan(), "{what}: {found}");
+}
+
 impl Swept {
-    /// Makes the call, with results of the length that the state has, and holds it to its number.
-    fn meet(&mut self, what: &str, state: &Lent, call: &Call, number: u32) {
+    /// Makes the call, with results of the length that the state has, holds it to its number, and gives the culprit.
+    fn meet(&mut self, what: &str, state: &Lent, call: &Call, number: u32) -> Option<Finding> {
         let mut lent = state.clone();
         let answer = lent.call(call);
         assert_eq!(answer, number, "{what}");
@@ -46,11 +73,12 @@ impl Swept {
             assert!(lent.bits() == state.bits(), "{what}: refused, and something lent has changed");
         }
         *self.0.entry(number).or_default() += 1;
+        explained(what, state, call, number)
     }
 
     /// The same, with results of the right length.
-    fn expect(&mut self, what: &str, state: &Lent, call: &Call, number: u32) {
-        self.meet(what, &state.clone().with_results_for(call), call, number);
+    fn expect(&mut self, what: &str, state: &Lent, call: &Call, number: u32) -> Option<Finding> {
+        self.meet(what, &state.clone().with_results_for(call), call, number)
     }
 
     /// Each bad number in each place of a list that a call is handed; the call is made from the list.
@@ -62,18 +90,19 @@ impl Swept {
         number: impl Fn(usize) -> u32,
         call: impl Fn(Vec<f32>) -> Call,
     ) {
+        let mut names = BTreeSet::new();
         for place in 0..list.len() {
             for value in bad(HANDED) {
                 let mut changed = list.to_vec();
                 changed[place] = value;
-                self.expect(
-                    &format!("{what}, number {place}: {value}"),
-                    state,
-                    &call(changed),
-                    number(place),
-                );
+                let what = format!("{what}, number {place}: {value}");
+                let culprit = self.expect(&what, state, &call(changed), number(place));
+                names.extend(culprit.iter().map(|found| (found.wheel, found.body, found.field)));
+                is_to_blame(&what, culprit, value);
             }
         }
+        let refused = (0..list.len()).filter(|place| number(*place) != 0).count();
+        assert_eq!(names.len(), refused, "{what}: two places have one name");
     }
 
     /// Each wrong length of a list, no number among them.
@@ -246,14 +275,22 @@ fn rubbish(swept: &mut Swept) {
             }
         }
         let used = len::CHASSIS + WHEELS * ROW;
+        let mut names = BTreeSet::new();
         for place in 0..len::TABLE {
             for value in bad(STORED) {
                 let spoilt = with(&state, |lent| lent.table[place] = value);
                 // An add fills the first unused row, whatever it holds; no other call looks at an unused one.
                 let expected = if place < used { number(2) } else { 0 };
-                swept.expect(&format!("stored number {place}: {value}"), &spoilt, &call, expected);
+                let what = format!("stored number {place}: {value}");
+                let culprit = swept.expect(&what, &spoilt, &call, expected);
+                let wheel = place.checked_sub(len::CHASSIS).map(|in_rows| (in_rows / ROW) as u32);
+                let named = culprit.as_ref().map(|found| found.wheel);
+                assert!(named.is_none_or(|named| named == wheel), "{what}: {culprit:?}");
+                names.extend(culprit.iter().map(|found| (found.wheel, found.field)));
+                is_to_blame(&what, culprit, value);
             }
         }
+        assert_eq!(names.len(), if is_set_up { 0 } else { used }, "two places have one name");
     }
 }
 

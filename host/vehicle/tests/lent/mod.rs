@@ -1,6 +1,7 @@
 //! A vehicle's two arrays, and the calls on them as values, so that a test can change one number of a call at a time.
 
-use vehicle_controller::ffi::{self, kind, len};
+use vehicle_controller::ffi::{self, help, kind, len};
+use vehicle_controller::Finding;
 
 /// Where the mark and the two axes stand among the whole numbers; the count is first.
 pub const MARK: usize = 1;
@@ -70,6 +71,26 @@ impl Lent {
                 ffi::drive(table, whole, *dt, bodies, dynamic, kinds, named, rays, results)
             }
             Call::Read(wheel) => ffi::read_wheel(table, whole, *wheel, results),
+        }
+    }
+
+    /// Why the call answers this.
+    pub fn explain(&self, answer: u32, call: &Call) -> Option<Finding> {
+        let Lent { table, whole, results } = self;
+        match call {
+            Call::SetUp(up, forward) => help::explain_set_up(answer, table, whole, *up, *forward),
+            Call::Add(settings) => help::explain_add_wheel(answer, table, whole, settings),
+            Call::Controls(wheel, controls) => {
+                help::explain_set_controls(answer, table, whole, *wheel, controls)
+            }
+            Call::ByAngle(wheel, controls) => {
+                help::explain_set_controls_by_angle(answer, table, whole, *wheel, controls)
+            }
+            Call::Aim(chassis) => help::explain_aim(answer, table, whole, chassis, results),
+            Call::Drive(Drive { dt, bodies, dynamic, kinds, named, rays }) => help::explain_drive(
+                answer, table, whole, *dt, bodies, dynamic, kinds, named, rays, results,
+            ),
+            Call::Read(wheel) => help::explain_read_wheel(answer, table, whole, *wheel, results),
         }
     }
 

@@ -4,6 +4,8 @@
 //! The only module with unsafe code. It passes each slice on as its pointer and its length.
 #![allow(clippy::too_many_arguments)]
 
+pub mod help;
+
 /// The lengths of what is lent and handed in, and the places in it. `tests/sizes.rs` holds them to the library's own.
 pub mod len {
     pub const TABLE: usize = 922;
@@ -171,7 +173,7 @@ pub fn set_up(table: &mut [f32], whole: &mut [u32], up: u32, forward: u32) -> u3
 }
 
 /// Adds a wheel. `settings`: connection, direction and axle (3 each), rest, radius, stiffness, compression, damping, travel, side,
-/// slip, most.
+/// slip, most, roll influence.
 pub fn add_wheel(table: &mut [f32], whole: &mut [u32], settings: &[f32]) -> u32 {
     // SAFETY: as in `set_up`.
     unsafe {

@@ -1,0 +1,139 @@
+/* What is accepted and hardly meant. Each doubt says why: a number that no car has is most often another number in its place. */
+#include <math.h>
+
+#include "fields.h"
+#include "finding.h"
+
+/* From where on a number is doubted. Forces are newtons, impulses newton seconds, for a car of a tonne or two. */
+#define UNIT_LOW 0.9f
+#define UNIT_HIGH 1.1f
+#define MOST_INVERSE_MASS 1.0f
+#define MOST_INVERSE_INERTIA 10.0f
+#define MOST_LEVER 10.0f
+#define MOST_ENGINE 50000.0f
+#define MOST_BRAKE 2000.0f
+#define MOST_STIFFNESS 1000.0f
+#define MOST_DAMPING 100.0f
+#define MOST_STEP 0.1f
+#define HALF_TURN 0.1f
+
+/* Findings as they are gathered. */
+struct doubts {
+    vehicle_finding *list;
+    size_t most, count;
+};
+
+static void doubt(struct doubts *doubts, vehicle_finding finding)
+{
+    if (doubts->count < doubts->most)
+        doubts->list[doubts->count] = finding;
+    doubts->count++;
+}
+
+static float length(const float *v)
+{
+    return vehicle_root((v[0] * v[0] + v[1] * v[1]) + v[2] * v[2]);
+}
+
+static void unit(struct doubts *doubts, uint32_t wheel, const char *field, const float *v, const char *why)
+{
+    if (length(v) < UNIT_LOW || length(v) > UNIT_HIGH)
+        doubt(doubts, of_wheel(found(field, length(v), "a direction has length one", 0, why), wheel));
+}
+
+size_t vehicle_doubts_set_up(uint32_t up, uint32_t forward, vehicle_finding *list, size_t most)
+{
+    struct doubts doubts = {list, most, 0};
+    if (up == forward)
+        doubt(&doubts, found("forward axis", forward, "it is the up axis too", 0, "The speed would have the sign of going up and down. Hand in two axes, such as up 1 and forward 0."));
+    return doubts.count;
+}
+
+size_t vehicle_doubts_add_wheel(uint32_t wheel, const float settings[VEHICLE_SETTINGS_LEN], vehicle_finding *list, size_t most)
+{
+    struct doubts doubts = {list, most, 0};
+    unit(&doubts, wheel, "length of the direction", settings + DIRECTION, "The ray would be that many times as long as rest_length + radius; a zero direction has no ray. Normalise it.");
+    unit(&doubts, wheel, "length of the axle", settings + AXLE, "Only where it points counts, but with a zero axle the tyre neither rolls nor holds. Normalise it.");
+    if (settings[STIFFNESS] > MOST_STIFFNESS)
+        doubt(&doubts, of_wheel(found("stiffness", settings[STIFFNESS], "a car has some tens", 0, "It is multiplied by the chassis' mass: divide a spring's newtons per metre by the mass."), wheel));
+    for (int place = COMPRESSION; place <= DAMPING; place++)
+        if (settings[place] > MOST_DAMPING)
+            doubt(&doubts, of_wheel(found(place == DAMPING ? "damping" : "compression", settings[place], "a car has less than ten", 0, "It is multiplied by the chassis' mass: divide a damper's newton seconds per metre by the mass."), wheel));
+    return doubts.count;
+}
+
+static void effort(struct doubts *doubts, uint32_t wheel, const float *controls)
+{
+    if (fabsf(controls[ENGINE]) > MOST_ENGINE)
+        doubt(doubts, of_wheel(found("engine", controls[ENGINE], "one wheel of a car pushes by some thousands", 0, "It is a force in newtons on this wheel, not a power and not a torque."), wheel));
+    if (controls[BRAKE] > MOST_BRAKE)
+        doubt(doubts, of_wheel(found("brake", controls[BRAKE], "one wheel of a car takes some tens in a step", 0, "It is an impulse for each step, in newton seconds: multiply a brake's force by the time step."), wheel));
+}
+
+/* Read as x, y, z, w, the quaternion of a small turn with w first is half a turn about x. */
+static void w_first(struct doubts *doubts, int32_t wheel, const char *field, const float *q)
+{
+    vehicle_finding finding;
+    if (!(fabsf(q[3]) < HALF_TURN && fabsf(q[0]) > 1 - HALF_TURN))
+        return;
+    finding = found(field, q[3], "that is half a turn about x, upside down", 0, "A quaternion is x, y, z, w in this order: if w was handed in first, the one that turns nothing reads so.");
+    finding.wheel = wheel;
+    doubt(doubts, finding);
+}
+
+size_t vehicle_doubts_set_controls_by_angle(uint32_t wheel, const float controls[VEHICLE_CONTROLS_BY_ANGLE_LEN], vehicle_finding *list, size_t most)
+{
+    struct doubts doubts = {list, most, 0};
+    effort(&doubts, wheel, controls);
+    return doubts.count;
+}
+
+size_t vehicle_doubts_set_controls(uint32_t wheel, const float controls[VEHICLE_CONTROLS_LEN], vehicle_finding *list, size_t most)
+{
+    struct doubts doubts = {list, most, 0};
+    effort(&doubts, wheel, controls);
+    w_first(&doubts, (int32_t)wheel, "steering.w", controls + STEERING);
+    return doubts.count;
+}
+
+static void masses(struct doubts *doubts, const float *chassis)
+{
+    static const char *const effective[] = {VECTOR_NAMES("effective_inverse_masses")};
+    static const char *const inertia[] = {INERTIA_NAMES("inverse_inertia")};
+    if (chassis[INVMASS] > MOST_INVERSE_MASS)
+        doubt(doubts, found("inverse_mass", chassis[INVMASS], "above 1 the chassis weighs less than a kilogram", 0, "Hand in 1 divided by the mass, not the mass."));
+    for (int axis = 0; axis < 3; axis++) {
+        float part = chassis[EFFECTIVE + axis];
+        if (part != 0 && part != chassis[INVMASS])
+            doubt(doubts, found(effective[axis], part, "it is the inverse mass, or 0 where the chassis is locked", 0, "Pushes along this axis would move another mass than the springs and tyres are worked out for."));
+    }
+    for (int place = 0; place < 6; place++)
+        if (fabsf(chassis[INERTIA + place]) > MOST_INVERSE_INERTIA)
+            doubt(doubts, found(inertia[place], chassis[INERTIA + place], "a car has less than a hundredth", 0, "It is the inverse of the inertia, in world space: hand in the inverse, not the inertia."));
+}
+
+size_t vehicle_doubts_aim(const float chassis[VEHICLE_CHASSIS_LEN], vehicle_finding *list, size_t most)
+{
+    struct doubts doubts = {list, most, 0};
+    float lever[3];
+    for (int axis = 0; axis < 3; axis++)
+        lever[axis] = chassis[MASS_CENTRE + axis] - chassis[TRANSLATION + axis];
+    if (length(lever) > MOST_LEVER)
+        doubt(&doubts, found("distance from translation to centre_of_mass", length(lever), "a car has less than a metre", 0, "The centre of mass is in world space: turn the local one by the rotation and add the translation."));
+    masses(&doubts, chassis);
+    w_first(&doubts, VEHICLE_NONE, "rotation.w", chassis + ORIENTATION);
+    return doubts.count;
+}
+
+size_t vehicle_doubts_drive(float dt, const float *bodies, size_t bodies_len, vehicle_finding *list, size_t most)
+{
+    struct doubts doubts = {list, most, 0};
+    if (dt > MOST_STEP)
+        doubt(&doubts, found("dt", dt, "springs and tyres are steady up to a tenth of a second", 0, "Divide the frame into shorter steps, each with its own aim and rays."));
+    for (size_t body = 0; body < bodies_len / VEHICLE_BODY_LEN; body++) {
+        float inverse_mass = bodies[VEHICLE_BODY_LEN * body + BODY_INVMASS];
+        if (inverse_mass > MOST_INVERSE_MASS)
+            doubt(&doubts, of_body(found("inverse_mass", inverse_mass, "above 1 the body weighs less than a kilogram", 0, "Hand in 1 divided by the mass, not the mass."), body));
+    }
+    return doubts.count;
+}
