@@ -1,6 +1,9 @@
 /* The vehicle controller: six calls on a table that the host lends, one of them in two forms.
  *
- * Link with libexports.a (x86-64), which `rt staticlib exports` writes to target/staticlib. It needs memcpy and memset, and nothing else.
+ * Link with libvehicle_controller.a (x86-64). It needs memcpy and memset, and nothing else. vehicle_help.h beside it says in words why a call was
+ * refused, and makes the lists that the calls take; vehicle.hpp has both for C++.
+ *
+ * What each number means, its unit, frame and sign: docs/NUMBERS.md. What a step does and exactly when each refusal is given: docs/RULES.md.
  *
  * The host owns two arrays, a table of VEHICLE_TABLE_LEN floats and VEHICLE_WHOLE_LEN whole numbers, and lends both to every call. Nothing
  * is kept anywhere else, so a copy of the two arrays is a copy of the vehicle, and vehicles may be driven on as many threads as there are.
@@ -59,15 +62,15 @@ extern "C" {
 #define VEHICLE_FULL 3
 /* There is no wheel of this number. Wheels are numbered from 0 in the order in which they were added. */
 #define VEHICLE_NO_SUCH_WHEEL 4
-/* A drive without an aim before it, or a read without a drive before it. An aim, and setting controls, come before the drive; adding a wheel,
- * setting up and aiming call for a new drive before the next read. */
+/* A drive without an aim before it, or a read without a drive before it. Controls that were set, or a wheel that was added, after the aim: aim
+ * again, cast again, then drive. A read after an aim, or after a wheel was added: drive first. */
 #define VEHICLE_WRONG_MOMENT 5
 /* The lists of a drive: not one ray answer for each wheel, over 64 bodies, lists whose lengths do not fit together, a flag that is not 0 or 1,
  * an unknown kind, a time that is NaN or not from 0 to 1, a body that is not in the list. */
 #define VEHICLE_BAD_LISTS 6
-/* A tyre on the ground would have to push with a demand or a grip limit that is NaN or above 2^40: masses, stiffness or speeds are wild. */
+/* A demand or the grip limit of a tyre on the ground would be NaN or above 2^40: look at masses, stiffness and speeds. */
 #define VEHICLE_WILD_GRIP 7
-/* The step would store a number or give a velocity that is NaN or above 2^40 in magnitude: masses, stiffness or speeds are wild. */
+/* The call would store a number or give a velocity that is NaN or above 2^40 in magnitude: look at masses, stiffness, radius and speeds. */
 #define VEHICLE_WILD_STEP 8
 /* (9 is of the scenario program.) A setting is out of its range: see each call. */
 #define VEHICLE_OUT_OF_RANGE 10
@@ -102,9 +105,7 @@ uint32_t vehicle_add_wheel(float *table, size_t table_len, uint32_t *whole, size
  * controls, VEHICLE_CONTROLS_BY_ANGLE_LEN: engine force; brake; steering, an angle in radians from -2 to 2.
  * Each aim turns the axle by the angle about minus the wheel's direction in the world, which that aim works out and makes unit length: the
  * wheel stays steered when the chassis turns, with no new call, and how long the direction is does not matter.
- * Which way is positive, by numbers: with the direction (0, -1, 0) and a chassis that is not turned, 0.5 takes the axle (0, 0, 1) to
- * (0.479426, 0, 0.877583), and on ground with the normal (0, 1, 0) the rolling direction, normal crossed with axle, from (1, 0, 0) to
- * (0.877583, 0, -0.479426). So a wheel that rolls along x with y up turns toward -z: to the left, where z points to the right.
+ * Which way is positive: to the left where the suspension points down; docs/NUMBERS.md has an example in numbers.
  * Refuses, the first that holds: 1; 4; 2; 10, a brake below 0, or an angle not from -2 to 2. A direction that an angle cannot turn about is
  * refused at the aim: VEHICLE_BAD_TURN. */
 uint32_t vehicle_set_controls_by_angle(float *table, size_t table_len, uint32_t *whole, size_t whole_len, uint32_t wheel, const float *controls, size_t controls_len);
