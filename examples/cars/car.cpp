@@ -9,27 +9,27 @@ using namespace vehicle;
 const double DT = 1.0 / 60, GRAVITY = 9.81;
 const float MASS = 1200;
 
+static float narrow(double x) { return static_cast<float>(x); }
+
 // Flat ground at height 0.
 static RayAnswer ground(const Sight& sight)
 {
-    const float time = static_cast<float>(double(sight.start.y) / -double(sight.ray.y));
+    const float time = narrow(std::max(double(sight.start.y) / -double(sight.ray.y), 0.0));
     return time <= 1 ? RayAnswer::hit(time, {0, 1, 0}) : RayAnswer::nothing();
 }
-
-static float narrow(double x) { return static_cast<float>(x); }
 
 int main()
 {
     Vehicle car(Axis::y, Axis::x);
     car.strict([](const Finding& doubt) { std::fprintf(stderr, "%s\n", doubt.words.c_str()); });
     for (const auto& [x, z] : {std::pair{1.25f, 0.75f}, {1.25f, -0.75f}, {-1.25f, 0.75f}, {-1.25f, -0.75f}}) {
-        const Mount mount{.connection = {x, -0.3f, z}, .direction = {0, -1, 0}, .axle = {0, 0, 1}, .rest_length = 0.3f, .radius = 0.3f};
+        const Mount mount{.connection = {x, -0.1f, z}, .direction = {0, -1, 0}, .axle = {0, 0, 1}, .rest_length = 0.3f, .radius = 0.3f};
         WheelSettings wheel = mount.wheel();
         wheel.stiffness = 30, wheel.compression = 2.2f, wheel.damping = 2.7f, wheel.travel = 0.2f, wheel.slip = 1;
         car.add_wheel(wheel);
     }
-    RigidBody body{.mass = MASS, .local_centre_of_mass = {0, -0.2f, 0}, .local_inertia = box_inertia(MASS, {4, 1.2f, 1.8f})};
-    double p[3] = {0, 0.81, 0}, q[4] = {0, 0, 0, 1};
+    RigidBody body{.mass = MASS, .local_inertia = box_inertia(MASS, {4, 1.2f, 1.8f})};
+    double p[3] = {0, 0.61, 0}, q[4] = {0, 0, 0, 1};
     for (int frame = 1; frame <= 360; frame++) {
         const float engine = frame <= 240 ? 1000 : 0, brake = frame <= 240 ? 0 : 50;
         const float angle = frame > 120 && frame <= 240 ? 0.1f : 0;

@@ -27,21 +27,21 @@ def call(name, *handed):
 DT, GRAVITY, MASS = 1 / 60, 9.81, 1200
 call("set_up", 1, 0)
 for x, z in [(1.25, 0.75), (1.25, -0.75), (-1.25, 0.75), (-1.25, -0.75)]:
-    mount = (x, -0.3, z, 0, -1, 0, 0, 0, 1, 0.3, 0.3)  # connection, direction, axle, rest length, radius
+    mount = (x, -0.1, z, 0, -1, 0, 0, 0, 1, 0.3, 0.3)  # connection, direction, axle, rest length, radius
     call("add_wheel", floats(*mount, 30, 2.2, 2.7, 0.2, 1, 1, 6000, 0.1))
 inertia = floats(*[0] * 6)
 lib.vehicle_make_box_inertia(c_float(MASS), floats(4, 1.2, 1.8), inertia)
-p, q, v, w = [0, 0.81, 0], [0, 0, 0, 1], [0, 0, 0], [0, 0, 0]
+p, q, v, w = [0, 0.61, 0], [0, 0, 0, 1], [0, 0, 0], [0, 0, 0]
 for frame in range(1, 361):
     engine, brake = (1000, 0) if frame <= 240 else (0, 50)
     angle = 0.1 if 120 < frame <= 240 else 0
     for wheel in range(4):
         call("set_controls_by_angle", wheel, floats(0, brake, angle) if wheel < 2 else floats(engine, brake, 0))
-    body = RigidBody(MASS, floats(0, -0.2, 0), inertia, floats(*p), floats(*q), floats(*v), floats(*w))
+    body = RigidBody(MASS, floats(0, 0, 0), inertia, floats(*p), floats(*q), floats(*v), floats(*w))
     chassis, sights, moved, tyre = (floats(*[0] * size) for size in (26, 97, 7, 20))
     lib.vehicle_make_chassis(byref(body), chassis)
     call("aim", chassis, sights)
-    times = [sights[2 + 6 * wheel] / -sights[5 + 6 * wheel] for wheel in range(4)]  # flat ground at height 0
+    times = [max(sights[2 + 6 * wheel] / -sights[5 + 6 * wheel], 0) for wheel in range(4)]  # flat ground at height 0
     rays = floats(*(number for time in times for number in (time, 0, 1, 0, 0, 0, 0)))
     call("drive", c_float(DT), floats(), wholes(), wholes(*(time <= 1 for time in times)), wholes(0, 0, 0, 0), rays, moved)
     call("read_wheel", 0, tyre)

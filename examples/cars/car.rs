@@ -9,7 +9,7 @@ const MASS: f32 = 1200.0;
 
 /// Flat ground at height 0.
 fn ground(sight: &Sight) -> RayAnswer {
-    let time = (f64::from(sight.start.y) / -f64::from(sight.ray.y)) as f32;
+    let time = (f64::from(sight.start.y) / -f64::from(sight.ray.y)).max(0.0) as f32;
     match time {
         ..=1.0 => RayAnswer::Hit { time, normal: Vector::new(0.0, 1.0, 0.0), body: None },
         _ => RayAnswer::Nothing,
@@ -23,13 +23,12 @@ fn bits(vectors: [Vector; 3]) -> String {
 fn main() -> Result<(), Refused> {
     let mut car = Vehicle::new(Axis::Y, Axis::X)?.strict(|doubt| eprintln!("{doubt}"));
     for (x, z) in [(1.25, 0.75), (1.25, -0.75), (-1.25, 0.75), (-1.25, -0.75)] {
-        let (connection, direction, axle) = (Vector::new(x, -0.3, z), Vector::new(0.0, -1.0, 0.0), Vector::new(0.0, 0.0, 1.0));
+        let (connection, direction, axle) = (Vector::new(x, -0.1, z), Vector::new(0.0, -1.0, 0.0), Vector::new(0.0, 0.0, 1.0));
         let wheel = Mount { connection, direction, axle, rest_length: 0.3, radius: 0.3 }.wheel();
         car.add_wheel(&WheelSettings { stiffness: 30.0, compression: 2.2, damping: 2.7, travel: 0.2, slip: 1.0, ..wheel })?;
     }
-    let inertia = Inertia::of_box(MASS, Vector::new(4.0, 1.2, 1.8));
-    let mut body = RigidBody { local_centre_of_mass: Vector::new(0.0, -0.2, 0.0), ..RigidBody::new(MASS, inertia) };
-    let (mut p, mut q) = ([0.0, 0.81, 0.0], [0.0, 0.0, 0.0, 1.0]);
+    let mut body = RigidBody::new(MASS, Inertia::of_box(MASS, Vector::new(4.0, 1.2, 1.8)));
+    let (mut p, mut q) = ([0.0, 0.61, 0.0], [0.0, 0.0, 0.0, 1.0]);
     for frame in 1..=360 {
         let (engine, brake) = if frame <= 240 { (1000.0, 0.0) } else { (0.0, 50.0) };
         let angle = if frame > 120 && frame <= 240 { 0.1 } else { 0.0 };

@@ -116,7 +116,8 @@ fn directions() {
     row("a normal of length two", || third(RayAnswer::Hit { time: 0.9, normal: Vector::new(0.0, 2.0, 0.0), body: None }));
     let down = |length: f32| Vector::new(0.0, -length, 0.0);
     row("a suspension direction of length two", || add(WheelSettings { direction: down(2.0), ..wheel() }));
-    row("the same in a `Mount`, which makes it unit length", || add(Mount { direction: down(2.0), ..mount() }.wheel()));
+    let direction = Mount { direction: down(2.0), ..mount() }.wheel().direction;
+    row("the same in a `Mount`, which makes it unit length", || add(WheelSettings { direction, ..wheel() }));
     row("a zero suspension direction, steered by an angle", || {
         let mut car = car()?;
         let wheel = car.add_wheel(&WheelSettings { direction: Vector::ZERO, ..wheel() })?;
@@ -124,6 +125,10 @@ fn directions() {
         car.aim(&body().chassis()).map(|_| ())
     });
     row("a zero axle", || add(WheelSettings { axle: Vector::ZERO, ..wheel() }));
+    row("an axle turned round, as for the wheels of the other side", || {
+        add(WheelSettings { axle: Vector::new(0.0, 0.0, -1.0), ..wheel() })
+    });
+    row("a floor's normal turned round", || third(RayAnswer::Hit { time: 0.9, normal: Vector::new(0.0, -1.0, 0.0), body: None }));
     row("up and forward axis the same", || strict(Axis::Y).map(|_| ()));
 }
 
@@ -145,6 +150,7 @@ fn units() {
     row("a brake's force, 3000 N, for its impulse in a step", || control(Controls { brake: 3000.0, ..Controls::default() }));
     row("a steering angle of 30 degrees", || control(Controls { steering: Steering::Angle(30.0), ..Controls::default() }));
     row("a spring rate of 36000 N/m, not divided by the mass", || add(WheelSettings { stiffness: 36_000.0, ..wheel() }));
+    row("the source's tuning, which `Mount::wheel` gives, left as it is", || add(mount().wheel()));
     row("a body that is not in the list", || third(RayAnswer::Hit { time: 0.9, normal: UP, body: Some(2) }));
 }
 

@@ -459,6 +459,9 @@ static void doubted_wheels()
     car.add_wheel(wheel);
     CHECK(reports.list.at(0).wheel == 1u && reports.list.at(0).value == 0);
     CHECK(reports.are("length of the axle", "wheel 1: length of the axle 0"));
+    wheel.axle = {0, 0, -1};
+    Vehicle(car).add_wheel(wheel);
+    CHECK(reports.are("rolling direction along the forward axis", "wheel 2: "));
     car.set_controls(1, {.brake = 5000});
     CHECK(reports.are("brake", "wheel 1: brake 5000"));
     car.set_controls(1, {.brake = 5000, .steering = Steering::angle(0.25f)});
@@ -485,6 +488,12 @@ static void doubted_frames()
     CHECK(reports.list.size() == VEHICLE_MOST_BODIES && reports.list.back().body == VEHICLE_MOST_BODIES - 1u);
     reports.list.clear();
 
+    car.aim(Chassis::at_rest(0.25f, {}));
+    std::vector<RayAnswer> answers = flat(4);
+    answers[1] = RayAnswer::hit(0.75f, down);
+    car.drive(0.0625f, {}, answers);
+    CHECK(reports.are("part of the normal along the ray", "wheel 1: "));
+
     Vehicle copy = car;
     copy.set_controls(0, {.brake = 5000});
     CHECK(reports.are("brake", "wheel 0: brake 5000"));
@@ -510,7 +519,9 @@ static void sound_car()
     Vehicle car = Vehicle().strict(reports.gather());
     for (const Vector& corner : {Vector{1.5f, 0, 1}, Vector{1.5f, 0, -1}, Vector{-1.5f, 0, 1}, Vector{-1.5f, 0, -1}}) {
         const Mount mount{.connection = corner, .direction = down, .axle = across, .rest_length = 0.3f, .radius = 0.3f};
-        const uint32_t wheel = car.add_wheel(mount.wheel());
+        WheelSettings settings = mount.wheel();
+        settings.stiffness = 30, settings.travel = 0.2f, settings.slip = 1;
+        const uint32_t wheel = car.add_wheel(settings);
         car.set_controls(wheel, {.engine = 800, .brake = 0, .steering = Steering::angle(corner.x > 0 ? 0.2f : 0)});
     }
     Aimed aimed = car.aim(sound_body().chassis());

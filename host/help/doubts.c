@@ -12,8 +12,7 @@
 #define MOST_LEVER 10.0f
 #define MOST_ENGINE 50000.0f
 #define MOST_BRAKE 2000.0f
-#define MOST_STIFFNESS 1000.0f
-#define MOST_DAMPING 100.0f
+#define LEAST_FORWARD 0.5f
 #define MOST_STEP 0.1f
 #define HALF_TURN 0.1f
 
@@ -35,9 +34,14 @@ static float length(const float *v)
     return vehicle_root((v[0] * v[0] + v[1] * v[1]) + v[2] * v[2]);
 }
 
+static int is_unit(const float *v)
+{
+    return length(v) >= UNIT_LOW && length(v) <= UNIT_HIGH;
+}
+
 static void unit(struct doubts *doubts, uint32_t wheel, const char *field, const float *v, const char *why)
 {
-    if (length(v) < UNIT_LOW || length(v) > UNIT_HIGH)
+    if (!is_unit(v))
         doubt(doubts, of_wheel(found(field, length(v), "a direction has length one", 0, why), wheel));
 }
 
@@ -45,20 +49,50 @@ size_t vehicle_doubts_set_up(uint32_t up, uint32_t forward, vehicle_finding *lis
 {
     struct doubts doubts = {list, most, 0};
     if (up == forward)
-        doubt(&doubts, found("forward axis", forward, "it is the up axis too", 0, "The speed would have the sign of going up and down. Hand in two axes, such as up 1 and forward 0."));
+        doubt(&doubts, found("forward axis", forward, "it is the up axis too", 0, "The speed would have the sign of going up and down. Hand in two, such as y up and x forward."));
     return doubts.count;
 }
 
-size_t vehicle_doubts_add_wheel(uint32_t wheel, const float settings[VEHICLE_SETTINGS_LEN], vehicle_finding *list, size_t most)
+/* How far the wheel rolls along the forward axis, on ground that the up axis stands on: the part of up × axle there. */
+static float rolls_forward(const uint32_t *whole, const float *axle)
+{
+    uint32_t next = (whole[UP] + 1) % 3, last = (whole[UP] + 2) % 3;
+    return whole[FORWARD] == next ? -axle[last] : axle[next];
+}
+
+static void rolling(struct doubts *doubts, const uint32_t *whole, const float *axle)
+{
+    float along = rolls_forward(whole, axle);
+    if (is_unit(axle) && whole[UP] != whole[FORWARD] && along < LEAST_FORWARD)
+        doubt(doubts, of_wheel(found("rolling direction along the forward axis", along, "it is 1 where an engine above 0 drives forward", 0, "The wheel rolls toward up x axle: turn the axle round, or set up with another forward axis."), whole[COUNT] - 1));
+}
+
+static void tuning(struct doubts *doubts, uint32_t wheel, const float *settings)
+{
+    static const struct {
+        int place;
+        float most;
+        const char *field, *bound, *why;
+    } tested[] = {
+        {STIFFNESS, 1000, "stiffness", "a car has some tens", "It is multiplied by the chassis' mass: divide a spring's newtons per metre by the mass."},
+        {COMPRESSION, 100, "compression", "a car has less than ten", "It is multiplied by the chassis' mass: divide a damper's newton seconds per metre by the mass."},
+        {DAMPING, 100, "damping", "a car has less than ten", "It is multiplied by the chassis' mass: divide a damper's newton seconds per metre by the mass."},
+        {TRAVEL, 1, "travel", "a car has some tenths of a metre", "The spring would be pressed past its mount. The Rust source's 5 is not for a car."},
+        {SLIP, 3, "slip", "a tyre has about 1", "It is the coefficient of friction. The Rust source's 10.5 is not for a car."},
+    };
+    for (size_t i = 0; i < sizeof tested / sizeof tested[0]; i++)
+        if (settings[tested[i].place] > tested[i].most)
+            doubt(doubts, of_wheel(found(tested[i].field, settings[tested[i].place], tested[i].bound, 0, tested[i].why), wheel));
+}
+
+size_t vehicle_doubts_add_wheel(const uint32_t whole[VEHICLE_WHOLE_LEN], const float settings[VEHICLE_SETTINGS_LEN], vehicle_finding *list, size_t most)
 {
     struct doubts doubts = {list, most, 0};
+    uint32_t wheel = whole[COUNT] - 1;
     unit(&doubts, wheel, "length of the direction", settings + DIRECTION, "The ray would be that many times as long as rest_length + radius; a zero direction has no ray. Normalise it.");
     unit(&doubts, wheel, "length of the axle", settings + AXLE, "Only where it points counts, but with a zero axle the tyre neither rolls nor holds. Normalise it.");
-    if (settings[STIFFNESS] > MOST_STIFFNESS)
-        doubt(&doubts, of_wheel(found("stiffness", settings[STIFFNESS], "a car has some tens", 0, "It is multiplied by the chassis' mass: divide a spring's newtons per metre by the mass."), wheel));
-    for (int place = COMPRESSION; place <= DAMPING; place++)
-        if (settings[place] > MOST_DAMPING)
-            doubt(&doubts, of_wheel(found(place == DAMPING ? "damping" : "compression", settings[place], "a car has less than ten", 0, "It is multiplied by the chassis' mass: divide a damper's newton seconds per metre by the mass."), wheel));
+    rolling(&doubts, whole, settings + AXLE);
+    tuning(&doubts, wheel, settings);
     return doubts.count;
 }
 
@@ -125,7 +159,18 @@ size_t vehicle_doubts_aim(const float chassis[VEHICLE_CHASSIS_LEN], vehicle_find
     return doubts.count;
 }
 
-size_t vehicle_doubts_drive(float dt, const float *bodies, size_t bodies_len, vehicle_finding *list, size_t most)
+/* A normal that points along the ray, away from the wheel. */
+static void normals(struct doubts *doubts, const float *table, const uint32_t *kinds, size_t wheels, const float *rays)
+{
+    for (uint32_t wheel = 0; wheel < wheels; wheel++) {
+        const float *ray = rays + VEHICLE_RAY_LEN * (size_t)wheel, *normal = ray + HIT_NORMAL, *direction = row_of(table, wheel) + WORLD_DIRECTION;
+        float along = (normal[0] * direction[0] + normal[1] * direction[1]) + normal[2] * direction[2];
+        if (kinds[wheel] != VEHICLE_NOTHING && ray[TIME] > 0 && along > 0)
+            doubt(doubts, of_wheel(found("part of the normal along the ray", along, "it is below 0, from the ground toward the wheel", 0, "A floor's normal is up: turn it round. As it is, the tyre is pushed into the ground."), wheel));
+    }
+}
+
+size_t vehicle_doubts_drive(const float table[VEHICLE_TABLE_LEN], float dt, const float *bodies, size_t bodies_len, const uint32_t *kinds, size_t kinds_len, const float *rays, size_t rays_len, vehicle_finding *list, size_t most)
 {
     struct doubts doubts = {list, most, 0};
     if (dt > MOST_STEP)
@@ -135,5 +180,7 @@ size_t vehicle_doubts_drive(float dt, const float *bodies, size_t bodies_len, ve
         if (inverse_mass > MOST_INVERSE_MASS)
             doubt(&doubts, of_body(found("inverse_mass", inverse_mass, "above 1 the body weighs less than a kilogram", 0, "Hand in 1 divided by the mass, not the mass."), body));
     }
+    if (kinds_len <= VEHICLE_MOST_WHEELS && rays_len == VEHICLE_RAY_LEN * kinds_len)
+        normals(&doubts, table, kinds, kinds_len, rays);
     return doubts.count;
 }

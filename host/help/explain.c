@@ -252,7 +252,7 @@ static vehicle_finding normal_of_length(const struct lists *lists, uint32_t whee
     if (lists->kinds[wheel] == VEHICLE_NOTHING)
         return nothing_found(0);
     if (!is_in_band(squared(normal)) && !(is_zero && ray[TIME] == 0))
-        return found("sum of squares of the normal", squared(normal), UNIT, 0, "Normalise the normals that the casts give, again where a set is scaled. Only a hit at time 0 may have a normal of zeros.");
+        return found("sum of squares of the normal", squared(normal), UNIT, 0, "Normalise the normals that the casts give, again where the scene is scaled. Only a hit at time 0 may have a normal of zeros.");
     if (lists->kinds[wheel] == VEHICLE_HIT_UP && !is_in_band(squared(upward)))
         return found("sum of squares of the upward normal", squared(upward), UNIT, 0, "Normalise it. Where an upward cast met nothing, hand in a plain hit without an upward normal.");
     return nothing_found(0);
@@ -427,7 +427,7 @@ static vehicle_finding for_answer(vehicle_finding finding, uint32_t answer)
 
 vehicle_finding vehicle_explain_set_up(uint32_t answer, const float *table, size_t table_len, const uint32_t *whole, size_t whole_len, uint32_t up, uint32_t forward)
 {
-    static const char advice[] = "Hand in one of these; the Rust source has up 1 and forward 0.";
+    static const char advice[] = "Hand in one of these; the Rust source has y up and x forward.";
     vehicle_finding length = length_of("length of the table", table_len, VEHICLE_TABLE_LEN);
     (void)table;
     (void)whole;

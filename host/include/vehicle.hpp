@@ -536,10 +536,9 @@ public:
     uint32_t add_wheel(const WheelSettings& wheel)
     {
         const auto settings = std::bit_cast<std::array<float, VEHICLE_SETTINGS_LEN>>(wheel);
-        const uint32_t number = wheel_count();
         detail::ask(vehicle_add_wheel, vehicle_explain_add_wheel, table_, whole_, settings);
-        doubt(vehicle_doubts_add_wheel, number, settings.data());
-        return number;
+        doubt(vehicle_doubts_add_wheel, whole_.data(), settings.data());
+        return wheel_count() - 1;
     }
 
     // They stay until they are set again.
@@ -557,7 +556,8 @@ public:
         std::array<float, VEHICLE_DRIVE_LEN> results{};
         detail::ask(vehicle_drive, vehicle_explain_drive, table_, whole_, dt, lists.bodies, lists.dynamic, lists.kinds,
                     lists.named, lists.rays, results);
-        doubt(vehicle_doubts_drive, dt, detail::start_of(lists.bodies), lists.bodies.size());
+        doubt(vehicle_doubts_drive, table_.data(), dt, detail::start_of(lists.bodies), lists.bodies.size(),
+              detail::start_of(lists.kinds), lists.kinds.size(), detail::start_of(lists.rays), lists.rays.size());
         return detail::from_results<Velocity, 1>(results);
     }
 

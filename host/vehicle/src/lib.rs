@@ -72,11 +72,19 @@ pub use refusal::{NotSaved, Refusal, Refused};
 
 use std::error::Error;
 use std::fmt;
+use std::sync::Arc;
 
 use ffi::{help, len};
 
-/// What is told of numbers that are accepted and hardly meant.
-pub type Report = fn(&Finding);
+/// Whom a strict vehicle reports to.
+#[derive(Clone)]
+struct Report(Arc<dyn Fn(&Finding) + Send + Sync>);
+
+impl fmt::Debug for Report {
+    fn fmt(&self, f: &mut fmt::Formatter<'_>) -> fmt::Result {
+        f.write_str("Report")
+    }
+}
 
 /// A vehicle: its table, and the whole numbers beside it. A clone is a second vehicle in the same state.
 #[derive(Clone, Debug)]
@@ -103,17 +111,17 @@ impl Vehicle {
         Ok(vehicle)
     }
 
-    /// From here on each accepted call reports what is hardly meant of the numbers that it was handed, with why; the axes at once. It changes no
-    /// call and no answer.
-    pub fn strict(mut self, report: Report) -> Self {
-        self.report = Some(report);
-        self.doubt(|| help::doubts_set_up(self.whole[flat::UP], self.whole[flat::FORWARD]));
+    /// From here on each accepted call reports what is hardly meant of the numbers that it was handed, with why, each time that it is made; the
+    /// axes at once. It changes no call and no answer. A clone reports too, a restored vehicle does not.
+    pub fn strict(mut self, report: impl Fn(&Finding) + Send + Sync + 'static) -> Self {
+        self.report = Some(Report(Arc::new(report)));
+        self.doubt(|whole| help::doubts_set_up(whole[flat::UP], whole[flat::FORWARD]));
         self
     }
 
-    fn doubt(&self, doubts: impl FnOnce() -> Vec<Finding>) {
-        if let Some(report) = self.report {
-            doubts().iter().for_each(report);
+    fn doubt(&self, doubts: impl FnOnce(&[u32; len::WHOLE]) -> Vec<Finding>) {
+        if let Some(Report(report)) = &self.report {
+            doubts(&self.whole).iter().for_each(|doubt| report(doubt));
         }
     }
 
@@ -130,9 +138,8 @@ impl Vehicle {
         Refused::unless_accepted(number, || {
             help::explain_add_wheel(number, table, whole, &settings)
         })?;
-        let wheel = self.wheel_count() - 1;
-        self.doubt(|| help::doubts_add_wheel(wheel, &settings));
-        Ok(wheel)
+        self.doubt(|whole| help::doubts_add_wheel(whole, &settings));
+        Ok(self.wheel_count() - 1)
     }
 
     /// Sets the engine force, brake and steering of one wheel, which stay until they are set again.
@@ -157,7 +164,7 @@ impl Vehicle {
         Refused::unless_accepted(number, || {
             help::explain_set_controls_by_angle(number, table, whole, wheel, controls)
         })?;
-        self.doubt(|| help::doubts_set_controls_by_angle(wheel, controls));
+        self.doubt(|_| help::doubts_set_controls_by_angle(wheel, controls));
         Ok(())
     }
 
@@ -171,7 +178,7 @@ impl Vehicle {
         Refused::unless_accepted(number, || {
             help::explain_set_controls(number, table, whole, wheel, controls)
         })?;
-        self.doubt(|| help::doubts_set_controls(wheel, controls));
+        self.doubt(|_| help::doubts_set_controls(wheel, controls));
         Ok(())
     }
 
@@ -183,7 +190,7 @@ impl Vehicle {
         Refused::unless_accepted(number, || {
             help::explain_aim(number, table, whole, &chassis, &results)
         })?;
-        self.doubt(|| help::doubts_aim(&chassis));
+        self.doubt(|_| help::doubts_aim(&chassis));
         Ok(Aimed { speed: results[0], sights: flat::sights(&results), vehicle: self })
     }
 
@@ -220,7 +227,7 @@ impl Vehicle {
                 number, table, whole, dt, &bodies, &dynamic, &kinds, &named, &rays, &results,
             )
         })?;
-        self.doubt(|| help::doubts_drive(dt, &bodies));
+        self.doubt(|_| help::doubts_drive(&self.table, dt, &bodies, &kinds, &rays));
         Ok(flat::velocity(&results))
     }
 

@@ -6,7 +6,9 @@ use std::fmt;
 use crate::ffi::help::Finding;
 
 /// A refused call: the refusal, and which number made it. The vehicle is then as it was before the call.
-#[derive(Clone, Debug, PartialEq)]
+///
+/// Its debug text is its words, so that a `main` that gives it says them.
+#[derive(Clone, PartialEq)]
 pub struct Refused {
     /// Which refusal it is.
     pub refusal: Refusal,
@@ -30,6 +32,12 @@ impl fmt::Display for Refused {
             Some(culprit) => write!(f, "refused ({}): {culprit}", self.refusal.number()),
             None => self.refusal.fmt(f),
         }
+    }
+}
+
+impl fmt::Debug for Refused {
+    fn fmt(&self, f: &mut fmt::Formatter<'_>) -> fmt::Result {
+        fmt::Display::fmt(self, f)
     }
 }
 

@@ -1,6 +1,6 @@
 //! What stands around the calls: makers, words of refusals, the strict mode, a vehicle as bytes, and an aim that is given back.
 
-use std::cell::RefCell;
+use std::sync::{Arc, Mutex};
 
 use vehicle_controller::ffi::{help, len};
 use vehicle_controller::{
@@ -127,6 +127,24 @@ fn a_refused_drive_gives_its_aim_back() -> Result<(), Refused> {
     Ok(())
 }
 
+/// As few digits as tell the number from every other f32.
+#[test]
+fn a_value_is_told_in_full() -> Result<(), Refused> {
+    let mut car = Vehicle::new(Axis::Y, Axis::X)?;
+    car.add_wheel(&mount(0.0, 0.0).wheel())?;
+    let next = 1.0 + f32::EPSILON;
+    for (time, text) in
+        [(next, "1.0000001"), (1.3, "1.3"), (123456.78, "123456.78"), (-0.5, "-0.5")]
+    {
+        let hit = RayAnswer::Hit { time, normal: UP, body: None };
+        let said = words(car.aim(&body().chassis())?.drive(0.5, &[], &[hit]));
+        assert!(said.starts_with(&format!("refused (6): wheel 0: hit time {text}, ")), "{said}");
+    }
+    let said = words(car.set_controls(0, &Controls { engine: 1_048_577.0, ..Controls::default() }));
+    assert!(said.starts_with("refused (2): wheel 0: engine 1048577, "), "{said}");
+    Ok(())
+}
+
 /// The advice fits the call at which it is given.
 #[test]
 fn each_wrong_moment_has_its_own_advice() -> Result<(), Refused> {
@@ -189,22 +207,32 @@ fn a_finding_is_told_whole() -> Result<(), Refused> {
     Ok(())
 }
 
-thread_local! {
-    static REPORTED: RefCell<Vec<Finding>> = const { RefCell::new(Vec::new()) };
-}
-
-/// What a strict vehicle reports while it does this.
-fn reported(act: impl FnOnce(Vehicle) -> Result<(), Refused>) -> Result<Vec<String>, Refused> {
-    reported_of(Axis::X, act)
-}
-
-fn reported_of(
+/// What a strict vehicle finds while it does this.
+fn doubts(
+    up: Axis,
     forward: Axis,
     act: impl FnOnce(Vehicle) -> Result<(), Refused>,
-) -> Result<Vec<String>, Refused> {
-    let report = |doubt: &Finding| REPORTED.with_borrow_mut(|list| list.push(doubt.clone()));
-    act(Vehicle::new(Axis::Y, forward)?.strict(report))?;
-    Ok(REPORTED.take().into_iter().map(|doubt| doubt.words).collect())
+) -> Result<Vec<Finding>, Refused> {
+    let list = Arc::new(Mutex::new(Vec::new()));
+    let kept = Arc::clone(&list);
+    let report = move |doubt: &Finding| kept.lock().expect("a list").push(doubt.clone());
+    act(Vehicle::new(up, forward)?.strict(report))?;
+    let found = list.lock().expect("a list").clone();
+    Ok(found)
+}
+
+/// The words of it, of a vehicle with y up and x forward.
+fn reported(act: impl FnOnce(Vehicle) -> Result<(), Refused>) -> Result<Vec<String>, Refused> {
+    words_of(doubts(Axis::Y, Axis::X, act))
+}
+
+fn words_of(found: Result<Vec<Finding>, Refused>) -> Result<Vec<String>, Refused> {
+    Ok(found?.into_iter().map(|doubt| doubt.words).collect())
+}
+
+/// A wheel of a car that nothing is doubted of.
+fn wheel() -> WheelSettings {
+    WheelSettings { stiffness: 30.0, travel: 0.2, slip: 0.9, ..mount(0.0, 0.0).wheel() }
 }
 
 fn one_wheel(settings: WheelSettings) -> Result<Vec<String>, Refused> {
@@ -213,7 +241,7 @@ fn one_wheel(settings: WheelSettings) -> Result<Vec<String>, Refused> {
 
 fn one_control(controls: Controls) -> Result<Vec<String>, Refused> {
     reported(|mut car| {
-        let wheel = car.add_wheel(&mount(0.0, 0.0).wheel())?;
+        let wheel = car.add_wheel(&wheel())?;
         car.set_controls(wheel, &controls)
     })
 }
@@ -231,7 +259,7 @@ fn starts(list: Result<Vec<String>, Refused>, expected: &[&str]) {
 
 #[test]
 fn a_strict_vehicle_doubts_a_wheel_and_its_controls() {
-    let wheel = mount(0.0, 0.0).wheel();
+    let wheel = wheel();
     let along = |length: f32| Vector::new(0.0, -length, 0.0);
     starts(one_wheel(wheel), &[]);
     for (length, number) in [(2.0, "2"), (0.5, "0.5"), (0.0, "0")] {
@@ -243,6 +271,8 @@ fn a_strict_vehicle_doubts_a_wheel_and_its_controls() {
     starts(one_wheel(WheelSettings { direction: along(1.05), ..wheel }), &[]);
     let stiff = WheelSettings { stiffness: 30_000.0, damping: 3000.0, ..wheel };
     starts(one_wheel(stiff), &["wheel 0: stiffness 30000, ", "wheel 0: damping 3000, "]);
+    let untuned = ["wheel 0: travel 5, ", "wheel 0: slip 10.5, "];
+    starts(one_wheel(mount(0.0, 0.0).wheel()), &untuned);
     let controls = Controls { steering: Steering::Angle(0.5), ..Controls::default() };
     starts(one_control(Controls { engine: 3000.0, brake: 60.0, ..controls }), &[]);
     starts(one_control(Controls { engine: -90_000.0, ..controls }), &["wheel 0: engine -90000, "]);
@@ -252,11 +282,52 @@ fn a_strict_vehicle_doubts_a_wheel_and_its_controls() {
     starts(one_control(Controls { steering, ..controls }), &["wheel 0: steering.w 0, "]);
 }
 
+/// A wheel rolls toward up × axle: x for the axle z where y is up, and so on round.
+#[test]
+fn a_strict_vehicle_doubts_a_wheel_that_does_not_roll_forward() {
+    let [x, y, z] = [Vector::new(1.0, 0.0, 0.0), UP, ACROSS];
+    let minus = |v: Vector| Vector::new(-v.x, -v.y, -v.z);
+    let said = |up: Axis, forward: Axis, axle: Vector| -> Vec<f64> {
+        let found = doubts(up, forward, |mut car| {
+            car.add_wheel(&WheelSettings { axle, ..wheel() }).map(|_| ())
+        });
+        found.expect("accepted").iter().map(|doubt| doubt.value).collect()
+    };
+    // Up, forward, the axle that rolls forward, and one that lies along forward.
+    for (up, forward, axle, along) in [
+        (Axis::Y, Axis::X, z, x),
+        (Axis::Y, Axis::Z, minus(x), z),
+        (Axis::Z, Axis::X, minus(y), x),
+        (Axis::Z, Axis::Y, x, y),
+        (Axis::X, Axis::Y, minus(z), y),
+        (Axis::X, Axis::Z, y, z),
+    ] {
+        assert_eq!(said(up, forward, axle), [], "{up:?} {forward:?}");
+        assert_eq!(said(up, forward, minus(axle)), [-1.0], "{up:?} {forward:?}, backward");
+        assert_eq!(said(up, forward, along), [0.0], "{up:?} {forward:?}, across");
+    }
+}
+
+#[test]
+fn a_strict_vehicle_doubts_a_normal_along_its_ray() {
+    let on = |time: f32, normal: Vector| {
+        reported(|mut car| {
+            car.add_wheel(&wheel())?;
+            let hit = RayAnswer::Hit { time, normal, body: None };
+            Ok(car.aim(&body().chassis())?.drive(0.1, &[], &[hit]).map(|_| ())?)
+        })
+    };
+    starts(on(0.75, UP), &[]);
+    starts(on(0.75, DOWN), &["wheel 0: part of the normal along the ray 1, "]);
+    starts(on(0.0, DOWN), &[]);
+}
+
 #[test]
 fn a_strict_vehicle_doubts_a_chassis_and_a_step() {
     let chassis = body().chassis();
-    starts(reported_of(Axis::Y, |_| Ok(())), &["forward axis 1, it is the up axis too. "]);
-    starts(reported_of(Axis::X, |_| Ok(())), &[]);
+    let same = words_of(doubts(Axis::Y, Axis::Y, |_| Ok(())));
+    starts(same, &["forward axis 1, it is the up axis too. "]);
+    starts(reported(|_| Ok(())), &[]);
     starts(one_aim(chassis), &[]);
     let heavy = Chassis { inverse_mass: 1200.0, ..chassis };
     let [ex, ey, ez] = ["x", "y", "z"].map(|axis| format!("effective_inverse_masses.{axis} "));

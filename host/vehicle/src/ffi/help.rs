@@ -3,7 +3,7 @@
 
 use std::ffi::{c_char, CStr};
 
-use super::len;
+use super::{calls, len};
 
 /// The lengths of `vehicle_help.h`. `tests/sizes.rs` holds them to it.
 pub const BOUND: usize = 128;
@@ -111,85 +111,6 @@ mod library {
 
     extern "C" {
         pub fn vehicle_words(finding: *const Found, text: *mut c_char, text_len: usize) -> usize;
-        pub fn vehicle_explain_set_up(
-            answer: u32,
-            table: *const f32,
-            table_len: usize,
-            whole: *const u32,
-            whole_len: usize,
-            up: u32,
-            forward: u32,
-        ) -> Found;
-        pub fn vehicle_explain_add_wheel(
-            answer: u32,
-            table: *const f32,
-            table_len: usize,
-            whole: *const u32,
-            whole_len: usize,
-            settings: *const f32,
-            settings_len: usize,
-        ) -> Found;
-        pub fn vehicle_explain_set_controls(
-            answer: u32,
-            table: *const f32,
-            table_len: usize,
-            whole: *const u32,
-            whole_len: usize,
-            wheel: u32,
-            controls: *const f32,
-            controls_len: usize,
-        ) -> Found;
-        pub fn vehicle_explain_set_controls_by_angle(
-            answer: u32,
-            table: *const f32,
-            table_len: usize,
-            whole: *const u32,
-            whole_len: usize,
-            wheel: u32,
-            controls: *const f32,
-            controls_len: usize,
-        ) -> Found;
-        pub fn vehicle_explain_aim(
-            answer: u32,
-            table: *const f32,
-            table_len: usize,
-            whole: *const u32,
-            whole_len: usize,
-            chassis: *const f32,
-            chassis_len: usize,
-            results: *const f32,
-            results_len: usize,
-        ) -> Found;
-        pub fn vehicle_explain_drive(
-            answer: u32,
-            table: *const f32,
-            table_len: usize,
-            whole: *const u32,
-            whole_len: usize,
-            dt: f32,
-            bodies: *const f32,
-            bodies_len: usize,
-            dynamic: *const u32,
-            dynamic_len: usize,
-            kinds: *const u32,
-            kinds_len: usize,
-            named: *const u32,
-            named_len: usize,
-            rays: *const f32,
-            rays_len: usize,
-            results: *const f32,
-            results_len: usize,
-        ) -> Found;
-        pub fn vehicle_explain_read_wheel(
-            answer: u32,
-            table: *const f32,
-            table_len: usize,
-            whole: *const u32,
-            whole_len: usize,
-            wheel: u32,
-            results: *const f32,
-            results_len: usize,
-        ) -> Found;
         pub fn vehicle_doubts_set_up(
             up: u32,
             forward: u32,
@@ -197,7 +118,7 @@ mod library {
             most: usize,
         ) -> usize;
         pub fn vehicle_doubts_add_wheel(
-            wheel: u32,
+            whole: *const u32,
             settings: *const f32,
             doubts: *mut Found,
             most: usize,
@@ -216,9 +137,14 @@ mod library {
         ) -> usize;
         pub fn vehicle_doubts_aim(chassis: *const f32, doubts: *mut Found, most: usize) -> usize;
         pub fn vehicle_doubts_drive(
+            table: *const f32,
             dt: f32,
             bodies: *const f32,
             bodies_len: usize,
+            kinds: *const u32,
+            kinds_len: usize,
+            rays: *const f32,
+            rays_len: usize,
             doubts: *mut Found,
             most: usize,
         ) -> usize;
@@ -237,39 +163,32 @@ mod library {
     }
 }
 
-/// Why a call was refused: what it answered, and then what it was handed. Each slice goes by its pointer and its length, a plain number as itself.
-macro_rules! explains {
-    ($($(#[$about:meta])* $name:ident = $in_c:ident($($of:tt $x:ident: $in:ty),*);)*) => {
-        $($(#[$about])*
-        pub fn $name(answer: u32, $($x: $in),*) -> Option<Finding> {
-            explains!(@call $in_c(answer) $($of $x)*).finding()
-        })*
-    };
-    // SAFETY: each pointer stands with the length of its own slice, and the library only reads.
-    (@call $in_c:ident($($done:expr),*)) => { unsafe { library::$in_c($($done),*) } };
-    (@call $in_c:ident($($done:expr),*) slice $x:ident $($rest:ident)*) => {
-        explains!(@call $in_c($($done,)* $x.as_ptr(), $x.len()) $($rest)*)
-    };
-    (@call $in_c:ident($($done:expr),*) plain $x:ident $($rest:ident)*) => {
-        explains!(@call $in_c($($done,)* $x) $($rest)*)
-    };
-}
-
-explains! {
+// Why a call was refused: what it answered, and then what it was handed.
+calls! {
     /// Why a set-up was refused.
-    explain_set_up = vehicle_explain_set_up(slice table: &[f32], slice whole: &[u32], plain up: u32, plain forward: u32);
+    explain_set_up = vehicle_explain_set_up(by answer: u32, of table: f32, of whole: u32, by up: u32, by forward: u32)
+        -> Found, finding -> Option<Finding>;
     /// Why adding a wheel was refused.
-    explain_add_wheel = vehicle_explain_add_wheel(slice table: &[f32], slice whole: &[u32], slice settings: &[f32]);
+    explain_add_wheel = vehicle_explain_add_wheel(by answer: u32, of table: f32, of whole: u32, of settings: f32)
+        -> Found, finding -> Option<Finding>;
     /// Why controls with a rotation were refused.
-    explain_set_controls = vehicle_explain_set_controls(slice table: &[f32], slice whole: &[u32], plain wheel: u32, slice controls: &[f32]);
+    explain_set_controls = vehicle_explain_set_controls(by answer: u32, of table: f32, of whole: u32, by wheel: u32, of controls: f32)
+        -> Found, finding -> Option<Finding>;
     /// Why controls with an angle were refused.
-    explain_set_controls_by_angle = vehicle_explain_set_controls_by_angle(slice table: &[f32], slice whole: &[u32], plain wheel: u32, slice controls: &[f32]);
+    explain_set_controls_by_angle = vehicle_explain_set_controls_by_angle(
+        by answer: u32, of table: f32, of whole: u32, by wheel: u32, of controls: f32
+    ) -> Found, finding -> Option<Finding>;
     /// Why an aim was refused.
-    explain_aim = vehicle_explain_aim(slice table: &[f32], slice whole: &[u32], slice chassis: &[f32], slice results: &[f32]);
+    explain_aim = vehicle_explain_aim(by answer: u32, of table: f32, of whole: u32, of chassis: f32, of results: f32)
+        -> Found, finding -> Option<Finding>;
     /// Why a drive was refused.
-    explain_drive = vehicle_explain_drive(slice table: &[f32], slice whole: &[u32], plain dt: f32, slice bodies: &[f32], slice dynamic: &[u32], slice kinds: &[u32], slice named: &[u32], slice rays: &[f32], slice results: &[f32]);
+    explain_drive = vehicle_explain_drive(
+        by answer: u32, of table: f32, of whole: u32, by dt: f32, of bodies: f32, of dynamic: u32, of kinds: u32, of named: u32, of rays: f32,
+        of results: f32
+    ) -> Found, finding -> Option<Finding>;
     /// Why a read was refused.
-    explain_read_wheel = vehicle_explain_read_wheel(slice table: &[f32], slice whole: &[u32], plain wheel: u32, slice results: &[f32]);
+    explain_read_wheel = vehicle_explain_read_wheel(by answer: u32, of table: f32, of whole: u32, by wheel: u32, of results: f32)
+        -> Found, finding -> Option<Finding>;
 }
 
 /// What the library doubts, as it writes it to a list and gives the number of all: asked for none it only counts them.
@@ -285,10 +204,13 @@ pub fn doubts_set_up(up: u32, forward: u32) -> Vec<Finding> {
     doubts(|list, most| unsafe { library::vehicle_doubts_set_up(up, forward, list, most) })
 }
 
-/// What is hardly meant of a wheel that was added.
-pub fn doubts_add_wheel(wheel: u32, settings: &[f32; len::SETTINGS]) -> Vec<Finding> {
+/// What is hardly meant of the wheel that was added last.
+pub fn doubts_add_wheel(
+    whole: &[u32; len::WHOLE],
+    settings: &[f32; len::SETTINGS],
+) -> Vec<Finding> {
     doubts(|list, most| unsafe {
-        library::vehicle_doubts_add_wheel(wheel, settings.as_ptr(), list, most)
+        library::vehicle_doubts_add_wheel(whole.as_ptr(), settings.as_ptr(), list, most)
     })
 }
 
@@ -314,10 +236,27 @@ pub fn doubts_aim(chassis: &[f32; len::CHASSIS]) -> Vec<Finding> {
     doubts(|list, most| unsafe { library::vehicle_doubts_aim(chassis.as_ptr(), list, most) })
 }
 
-/// What is hardly meant of a time step and ground bodies.
-pub fn doubts_drive(dt: f32, bodies: &[f32]) -> Vec<Finding> {
+/// What is hardly meant of what a drive was handed.
+pub fn doubts_drive(
+    table: &[f32; len::TABLE],
+    dt: f32,
+    bodies: &[f32],
+    kinds: &[u32],
+    rays: &[f32],
+) -> Vec<Finding> {
     doubts(|list, most| unsafe {
-        library::vehicle_doubts_drive(dt, bodies.as_ptr(), bodies.len(), list, most)
+        library::vehicle_doubts_drive(
+            table.as_ptr(),
+            dt,
+            bodies.as_ptr(),
+            bodies.len(),
+            kinds.as_ptr(),
+            kinds.len(),
+            rays.as_ptr(),
+            rays.len(),
+            list,
+            most,
+        )
     })
 }
 

@@ -34,115 +34,91 @@ pub mod kind {
     pub const HIT_UP: u32 = 2;
 }
 
-mod library {
-    extern "C" {
-        pub fn vehicle_root(x: f32) -> f32;
-        pub fn vehicle_sine(half_angle: f32) -> f32;
-        pub fn vehicle_cosine(half_angle: f32) -> f32;
-        pub fn vehicle_table_len() -> u32;
-        pub fn vehicle_whole_len() -> u32;
-        pub fn vehicle_settings_len() -> u32;
-        pub fn vehicle_controls_len() -> u32;
-        pub fn vehicle_controls_by_angle_len() -> u32;
-        pub fn vehicle_chassis_len() -> u32;
-        pub fn vehicle_body_len() -> u32;
-        pub fn vehicle_ray_len() -> u32;
-        pub fn vehicle_aim_len() -> u32;
-        pub fn vehicle_drive_len() -> u32;
-        pub fn vehicle_read_len() -> u32;
-        pub fn vehicle_set_up(
-            table: *mut f32,
-            table_len: usize,
-            whole: *mut u32,
-            whole_len: usize,
-            up: u32,
-            forward: u32,
-        ) -> u32;
-        pub fn vehicle_add_wheel(
-            table: *mut f32,
-            table_len: usize,
-            whole: *mut u32,
-            whole_len: usize,
-            settings: *const f32,
-            settings_len: usize,
-        ) -> u32;
-        pub fn vehicle_set_controls(
-            table: *mut f32,
-            table_len: usize,
-            whole: *mut u32,
-            whole_len: usize,
-            wheel: u32,
-            controls: *const f32,
-            controls_len: usize,
-        ) -> u32;
-        pub fn vehicle_set_controls_by_angle(
-            table: *mut f32,
-            table_len: usize,
-            whole: *mut u32,
-            whole_len: usize,
-            wheel: u32,
-            controls: *const f32,
-            controls_len: usize,
-        ) -> u32;
-        pub fn vehicle_aim(
-            table: *mut f32,
-            table_len: usize,
-            whole: *mut u32,
-            whole_len: usize,
-            chassis: *const f32,
-            chassis_len: usize,
-            results: *mut f32,
-            results_len: usize,
-        ) -> u32;
-        pub fn vehicle_drive(
-            table: *mut f32,
-            table_len: usize,
-            whole: *mut u32,
-            whole_len: usize,
-            dt: f32,
-            bodies: *const f32,
-            bodies_len: usize,
-            dynamic: *const u32,
-            dynamic_len: usize,
-            kinds: *const u32,
-            kinds_len: usize,
-            named: *const u32,
-            named_len: usize,
-            rays: *const f32,
-            rays_len: usize,
-            results: *mut f32,
-            results_len: usize,
-        ) -> u32;
-        pub fn vehicle_read_wheel(
-            table: *const f32,
-            table_len: usize,
-            whole: *const u32,
-            whole_len: usize,
-            wheel: u32,
-            results: *mut f32,
-            results_len: usize,
-        ) -> u32;
-    }
-}
-
-/// A function that takes and gives plain numbers.
-macro_rules! plain {
-    ($($(#[$about:meta])* $name:ident = $in_c:ident($($x:ident: $in:ty),*) -> $out:ty;)*) => {
-        $($(#[$about])*
-        pub fn $name($($x: $in),*) -> $out {
-            // SAFETY: nothing is lent.
-            unsafe { library::$in_c($($x),*) }
-        })*
+/// Safe functions over the library's, each with the declaration of the C function that it calls. `of x: T` is a slice that is read and `to x: T`
+/// one that may be written: both go as their pointer and their length. `by x: T` goes as it is. What is given is given on, or by a method of it.
+macro_rules! calls {
+    ($($(#[$about:meta])* $name:ident = $in_c:ident($($how:ident $x:ident: $t:ty),*) -> $out:ty $(, $made:ident -> $given:ty)?;)*) => {
+        $(calls! { @one [$(#[$about])*] $name $in_c [$($how $x: $t,)*] [$out] $([$made $given])? })*
+    };
+    (@one [$($about:tt)*] $name:ident $in_c:ident [$($how:ident $x:ident: $t:ty,)*] [$out:ty]) => {
+        $($about)*
+        pub fn $name($($x: calls!(@type $how $t)),*) -> $out {
+            calls!(@declare $in_c $out; [] $($how $x: $t,)*);
+            // SAFETY: each pointer stands with the length of its own slice, and Rust keeps a `&mut` apart from every other slice. The library
+            // reads and writes no further, and writes only where a slice may be written.
+            unsafe { calls!(@call $in_c; [] $($how $x,)*) }
+        }
+    };
+    (@one [$($about:tt)*] $name:ident $in_c:ident [$($how:ident $x:ident: $t:ty,)*] [$out:ty] [$made:ident $given:ty]) => {
+        $($about)*
+        pub fn $name($($x: calls!(@type $how $t)),*) -> $given {
+            calls!(@declare $in_c $out; [] $($how $x: $t,)*);
+            // SAFETY: as above.
+            unsafe { calls!(@call $in_c; [] $($how $x,)*) }.$made()
+        }
+    };
+    (@type of $t:ty) => { &[$t] };
+    (@type to $t:ty) => { &mut [$t] };
+    (@type by $t:ty) => { $t };
+    (@declare $in_c:ident $out:ty; [$($c:tt)*]) => { extern "C" { fn $in_c($($c)*) -> $out; } };
+    (@declare $in_c:ident $out:ty; [$($c:tt)*] of $x:ident: $t:ty, $($rest:tt)*) => {
+        calls!(@declare $in_c $out; [$($c)* _: *const $t, _: usize,] $($rest)*)
+    };
+    (@declare $in_c:ident $out:ty; [$($c:tt)*] to $x:ident: $t:ty, $($rest:tt)*) => {
+        calls!(@declare $in_c $out; [$($c)* _: *mut $t, _: usize,] $($rest)*)
+    };
+    (@declare $in_c:ident $out:ty; [$($c:tt)*] by $x:ident: $t:ty, $($rest:tt)*) => {
+        calls!(@declare $in_c $out; [$($c)* _: $t,] $($rest)*)
+    };
+    (@call $in_c:ident; [$($c:tt)*]) => { $in_c($($c)*) };
+    (@call $in_c:ident; [$($c:tt)*] of $x:ident, $($rest:tt)*) => {
+        calls!(@call $in_c; [$($c)* $x.as_ptr(), $x.len(),] $($rest)*)
+    };
+    (@call $in_c:ident; [$($c:tt)*] to $x:ident, $($rest:tt)*) => {
+        calls!(@call $in_c; [$($c)* $x.as_mut_ptr(), $x.len(),] $($rest)*)
+    };
+    (@call $in_c:ident; [$($c:tt)*] by $x:ident, $($rest:tt)*) => {
+        calls!(@call $in_c; [$($c)* $x,] $($rest)*)
     };
 }
+pub(crate) use calls;
 
-plain! {
+calls! {
+    /// Makes the lent numbers a vehicle with no wheels, whatever they hold.
+    set_up = vehicle_set_up(to table: f32, to whole: u32, by up: u32, by forward: u32) -> u32;
+
+    /// Adds a wheel. `settings`: connection, direction and axle (3 each), rest, radius, stiffness, compression, damping, travel, side, slip, most,
+    /// roll influence.
+    add_wheel = vehicle_add_wheel(to table: f32, to whole: u32, of settings: f32) -> u32;
+
+    /// Sets the controls of one wheel: engine, brake, steering as a rotation in world space (x, y, z, w).
+    set_controls = vehicle_set_controls(to table: f32, to whole: u32, by wheel: u32, of controls: f32) -> u32;
+
+    /// Sets the controls of one wheel: engine, brake, steering as an angle in radians.
+    set_controls_by_angle = vehicle_set_controls_by_angle(to table: f32, to whole: u32, by wheel: u32, of controls: f32) -> u32;
+
+    /// Aims. `chassis`: translation 3, rotation 4, centre of mass 3, linear velocity 3, angular velocity 3, inverse mass, effective inverse
+    /// masses 3, inverse inertia 6. `results`: the signed speed; for each of 16 wheels its hard point and its ray.
+    aim = vehicle_aim(to table: f32, to whole: u32, of chassis: f32, to results: f32) -> u32;
+
+    /// Drives. For each ground body 16 numbers and a flag, 1 if it is dynamic; for each wheel its kind of answer, 0 or the number of the body
+    /// that was hit, counted from 1, and 7 numbers: time, normal, upward normal. `results`: linear velocity, angular velocity, 1 to wake.
+    drive = vehicle_drive(
+        to table: f32, to whole: u32, by dt: f32, of bodies: f32, of dynamic: u32, of kinds: u32, of named: u32, of rays: f32, to results: f32
+    ) -> u32;
+
+    /// Reads a wheel. `results`: centre, direction, axle (3 each), length, force, forward, side, skid, rotation, settled centre (3), no axis, no
+    /// forward direction (1 or 0 each).
+    read_wheel = vehicle_read_wheel(of table: f32, of whole: u32, by wheel: u32, to results: f32) -> u32;
+
     /// The square root, correctly rounded. A NaN, and a number below zero, give a NaN.
-    root = vehicle_root(x: f32) -> f32;
+    root = vehicle_root(by x: f32) -> f32;
     /// The sine of half a steering angle, a number from -1 to 1: within 2^-20 of its Taylor sum through the twelfth power.
-    sine = vehicle_sine(half_angle: f32) -> f32;
+    sine = vehicle_sine(by half_angle: f32) -> f32;
     /// Its cosine, as near.
-    cosine = vehicle_cosine(half_angle: f32) -> f32;
+    cosine = vehicle_cosine(by half_angle: f32) -> f32;
+
+    /// The sizes of `len`, as the library has them.
     table_len = vehicle_table_len() -> u32;
     whole_len = vehicle_whole_len() -> u32;
     settings_len = vehicle_settings_len() -> u32;
@@ -154,145 +130,4 @@ plain! {
     aim_len = vehicle_aim_len() -> u32;
     drive_len = vehicle_drive_len() -> u32;
     read_len = vehicle_read_len() -> u32;
-}
-
-/// Makes the lent numbers a vehicle with no wheels, whatever they hold.
-pub fn set_up(table: &mut [f32], whole: &mut [u32], up: u32, forward: u32) -> u32 {
-    // SAFETY: each pointer stands with the length of its own slice, and Rust keeps a `&mut` apart from every other slice.
-    // The library writes to nothing else.
-    unsafe {
-        library::vehicle_set_up(
-            table.as_mut_ptr(),
-            table.len(),
-            whole.as_mut_ptr(),
-            whole.len(),
-            up,
-            forward,
-        )
-    }
-}
-
-/// Adds a wheel. `settings`: connection, direction and axle (3 each), rest, radius, stiffness, compression, damping, travel, side,
-/// slip, most, roll influence.
-pub fn add_wheel(table: &mut [f32], whole: &mut [u32], settings: &[f32]) -> u32 {
-    // SAFETY: as in `set_up`.
-    unsafe {
-        library::vehicle_add_wheel(
-            table.as_mut_ptr(),
-            table.len(),
-            whole.as_mut_ptr(),
-            whole.len(),
-            settings.as_ptr(),
-            settings.len(),
-        )
-    }
-}
-
-/// Sets the controls of one wheel: engine, brake, steering as a rotation in world space (x, y, z, w).
-pub fn set_controls(table: &mut [f32], whole: &mut [u32], wheel: u32, controls: &[f32]) -> u32 {
-    // SAFETY: as in `set_up`.
-    unsafe {
-        library::vehicle_set_controls(
-            table.as_mut_ptr(),
-            table.len(),
-            whole.as_mut_ptr(),
-            whole.len(),
-            wheel,
-            controls.as_ptr(),
-            controls.len(),
-        )
-    }
-}
-
-/// Sets the controls of one wheel: engine, brake, steering as an angle in radians.
-pub fn set_controls_by_angle(
-    table: &mut [f32],
-    whole: &mut [u32],
-    wheel: u32,
-    controls: &[f32],
-) -> u32 {
-    // SAFETY: as in `set_up`.
-    unsafe {
-        library::vehicle_set_controls_by_angle(
-            table.as_mut_ptr(),
-            table.len(),
-            whole.as_mut_ptr(),
-            whole.len(),
-            wheel,
-            controls.as_ptr(),
-            controls.len(),
-        )
-    }
-}
-
-/// Aims. `chassis`: translation 3, rotation 4, centre of mass 3, linear velocity 3, angular velocity 3, inverse mass, effective inverse
-/// masses 3, inverse inertia 6. `results`: the signed speed; for each of 16 wheels its hard point and its ray.
-pub fn aim(table: &mut [f32], whole: &mut [u32], chassis: &[f32], results: &mut [f32]) -> u32 {
-    // SAFETY: as in `set_up`.
-    unsafe {
-        library::vehicle_aim(
-            table.as_mut_ptr(),
-            table.len(),
-            whole.as_mut_ptr(),
-            whole.len(),
-            chassis.as_ptr(),
-            chassis.len(),
-            results.as_mut_ptr(),
-            results.len(),
-        )
-    }
-}
-
-/// Drives. For each ground body 16 numbers and a flag, 1 if it is dynamic; for each wheel its kind of answer, 0 or the number of the body
-/// that was hit, counted from 1, and 7 numbers: time, normal, upward normal. `results`: linear velocity, angular velocity, 1 to wake.
-pub fn drive(
-    table: &mut [f32],
-    whole: &mut [u32],
-    dt: f32,
-    bodies: &[f32],
-    dynamic: &[u32],
-    kinds: &[u32],
-    named: &[u32],
-    rays: &[f32],
-    results: &mut [f32],
-) -> u32 {
-    // SAFETY: as in `set_up`.
-    unsafe {
-        library::vehicle_drive(
-            table.as_mut_ptr(),
-            table.len(),
-            whole.as_mut_ptr(),
-            whole.len(),
-            dt,
-            bodies.as_ptr(),
-            bodies.len(),
-            dynamic.as_ptr(),
-            dynamic.len(),
-            kinds.as_ptr(),
-            kinds.len(),
-            named.as_ptr(),
-            named.len(),
-            rays.as_ptr(),
-            rays.len(),
-            results.as_mut_ptr(),
-            results.len(),
-        )
-    }
-}
-
-/// Reads a wheel. `results`: centre, direction, axle (3 each), length, force, forward, side, skid, rotation, settled centre (3), no axis, no
-/// forward direction (1 or 0 each).
-pub fn read_wheel(table: &[f32], whole: &[u32], wheel: u32, results: &mut [f32]) -> u32 {
-    // SAFETY: as in `set_up`; the library reads the table and the whole numbers, and writes to the results alone.
-    unsafe {
-        library::vehicle_read_wheel(
-            table.as_ptr(),
-            table.len(),
-            whole.as_ptr(),
-            whole.len(),
-            wheel,
-            results.as_mut_ptr(),
-            results.len(),
-        )
-    }
 }
