@@ -145,40 +145,36 @@ impl Vehicle {
     /// Sets the engine force, brake and steering of one wheel, which stay until they are set again.
     pub fn set_controls(&mut self, wheel: u32, controls: &Controls) -> Result<(), Refused> {
         match controls.steering {
-            Steering::Angle(angle) => {
-                self.controls_by_angle(wheel, &flat::controls_by_angle(controls, angle))
-            }
-            Steering::Rotation(rotation) => {
-                self.controls_by_rotation(wheel, &flat::controls(controls, rotation))
-            }
+            Steering::Angle(angle) => self.control(
+                wheel,
+                &flat::controls_by_angle(controls, angle),
+                ffi::set_controls_by_angle,
+                help::explain_set_controls_by_angle,
+                help::doubts_set_controls_by_angle,
+            ),
+            Steering::Rotation(rotation) => self.control(
+                wheel,
+                &flat::controls(controls, rotation),
+                ffi::set_controls,
+                help::explain_set_controls,
+                help::doubts_set_controls,
+            ),
         }
     }
 
-    fn controls_by_angle(
+    /// Sets controls by either form of the call.
+    fn control<const N: usize>(
         &mut self,
         wheel: u32,
-        controls: &[f32; len::CONTROLS_BY_ANGLE],
+        controls: &[f32; N],
+        call: impl FnOnce(&mut [f32], &mut [u32], u32, &[f32]) -> u32,
+        explain: impl FnOnce(u32, &[f32], &[u32], u32, &[f32]) -> Option<Finding>,
+        doubts: impl FnOnce(u32, &[f32; N]) -> Vec<Finding>,
     ) -> Result<(), Refused> {
         let (table, whole) = (&mut self.table[..], &mut self.whole);
-        let number = ffi::set_controls_by_angle(table, whole, wheel, controls);
-        Refused::unless_accepted(number, || {
-            help::explain_set_controls_by_angle(number, table, whole, wheel, controls)
-        })?;
-        self.doubt(|_| help::doubts_set_controls_by_angle(wheel, controls));
-        Ok(())
-    }
-
-    fn controls_by_rotation(
-        &mut self,
-        wheel: u32,
-        controls: &[f32; len::CONTROLS],
-    ) -> Result<(), Refused> {
-        let (table, whole) = (&mut self.table[..], &mut self.whole);
-        let number = ffi::set_controls(table, whole, wheel, controls);
-        Refused::unless_accepted(number, || {
-            help::explain_set_controls(number, table, whole, wheel, controls)
-        })?;
-        self.doubt(|_| help::doubts_set_controls(wheel, controls));
+        let number = call(table, whole, wheel, controls);
+        Refused::unless_accepted(number, || explain(number, table, whole, wheel, controls))?;
+        self.doubt(|_| doubts(wheel, controls));
         Ok(())
     }
 
