@@ -31,7 +31,7 @@ int main()
     RigidBody body{.mass = MASS, .local_inertia = box_inertia(MASS, {4, 1.2f, 1.8f})};
     double p[3] = {0, 0.61, 0}, q[4] = {0, 0, 0, 1};
     for (int frame = 1; frame <= 360; frame++) {
-        const float engine = frame <= 240 ? 1000 : 0, brake = frame <= 240 ? 0 : 50;
+        const float engine = frame <= 240 ? 1000 : 0, brake = frame <= 240 ? 0 : 30;
         const float angle = frame > 120 && frame <= 240 ? 0.1f : 0;
         for (uint32_t wheel = 0; wheel < 4; wheel++)
             car.set_controls(wheel, {.engine = wheel < 2 ? 0 : engine, .brake = brake, .steering = Steering::angle(wheel < 2 ? angle : 0)});

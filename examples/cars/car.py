@@ -33,7 +33,7 @@ inertia = floats(*[0] * 6)
 lib.vehicle_make_box_inertia(c_float(MASS), floats(4, 1.2, 1.8), inertia)
 p, q, v, w = [0, 0.61, 0], [0, 0, 0, 1], [0, 0, 0], [0, 0, 0]
 for frame in range(1, 361):
-    engine, brake = (1000, 0) if frame <= 240 else (0, 50)
+    engine, brake = (1000, 0) if frame <= 240 else (0, 30)
     angle = 0.1 if 120 < frame <= 240 else 0
     for wheel in range(4):
         call("set_controls_by_angle", wheel, floats(0, brake, angle) if wheel < 2 else floats(engine, brake, 0))

@@ -30,7 +30,7 @@ fn main() -> Result<(), Refused> {
     let mut body = RigidBody::new(MASS, Inertia::of_box(MASS, Vector::new(4.0, 1.2, 1.8)));
     let (mut p, mut q) = ([0.0, 0.61, 0.0], [0.0, 0.0, 0.0, 1.0]);
     for frame in 1..=360 {
-        let (engine, brake) = if frame <= 240 { (1000.0, 0.0) } else { (0.0, 50.0) };
+        let (engine, brake) = if frame <= 240 { (1000.0, 0.0) } else { (0.0, 30.0) };
         let angle = if frame > 120 && frame <= 240 { 0.1 } else { 0.0 };
         for wheel in 0..4 {
             let (engine, angle) = if wheel < 2 { (0.0, angle) } else { (engine, 0.0) };

@@ -148,6 +148,7 @@ fn units() {
     row("an infinite engine force", || control(Controls { engine: f32::INFINITY, ..Controls::default() }));
     row("an engine's power, 100 kW, for its force", || control(Controls { engine: 100_000.0, ..Controls::default() }));
     row("a brake's force, 3000 N, for its impulse in a step", || control(Controls { brake: 3000.0, ..Controls::default() }));
+    row("a brake on a wheel whose engine still pulls", || control(Controls { engine: 1000.0, brake: 30.0, ..Controls::default() }));
     row("a steering angle of 30 degrees", || control(Controls { steering: Steering::Angle(30.0), ..Controls::default() }));
     row("a spring rate of 36000 N/m, not divided by the mass", || add(WheelSettings { stiffness: 36_000.0, ..wheel() }));
     row("the source's tuning, which `Mount::wheel` gives, left as it is", || add(mount().wheel()));

@@ -292,6 +292,32 @@ static void wrong_moments()
     CHECK(aimed.sights().size() == 4);
 }
 
+// Whether a call throws that its Aimed or its Driven is of an earlier aim.
+template <typename Call>
+static bool is_of_an_earlier_aim(Call call)
+{
+    try {
+        call();
+    } catch (const std::logic_error& error) {
+        return has(error.what(), "an earlier aim");
+    }
+    return false;
+}
+
+static void earlier_aims()
+{
+    Vehicle car = small_car();
+    Aimed first = car.aim(moving({12, 0, 5}));
+    const Driven driven = first.drive(0.5f, {}, flat(4));
+    CHECK(refused_by([&] { car.aim({}); }).number() == VEHICLE_OUT_OF_RANGE);
+    CHECK(driven.read(0) == car.read_wheel(0)); // a refused aim takes nothing away
+    Aimed second = car.aim(moving({12, 0, 5}));
+    CHECK(is_of_an_earlier_aim([&] { first.drive(0.5f, {}, flat(4)); }));
+    const Driven next = second.drive(0.5f, {}, flat(4));
+    CHECK(is_of_an_earlier_aim([&] { driven.read(0); }));
+    CHECK(next.read(0) == car.read_wheel(0));
+}
+
 static void named_fields()
 {
     Vehicle car = small_car();
@@ -467,7 +493,7 @@ static void doubted_wheels()
     car.set_controls(1, {.brake = 5000, .steering = Steering::angle(0.25f)});
     CHECK(reports.are("brake", "wheel 1: brake 5000"));
     car.set_controls(0, {.steering = Steering::rotation({1, 0, 0, 0})});
-    CHECK(reports.are("steering.w", "wheel 0: steering.w 0"));
+    CHECK(reports.are("up part of up turned by the steering", "wheel 0: "));
 }
 
 static void doubted_frames()
@@ -636,6 +662,7 @@ int main()
     empty_lists();
     refused_drive();
     wrong_moments();
+    earlier_aims();
     named_fields();
     other_refusals();
     saved();

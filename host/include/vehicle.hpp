@@ -19,9 +19,8 @@
 //
 // What C++ cannot hold at compile time: an Aimed or a Driven refers to its vehicle, which has to outlive it and to stay
 // where it is in memory. One that is kept after another call on the vehicle is answered by refusal 5 at run time, where
-// that call took its moment away: controls or a wheel before an Aimed drives, a drive before it drives again, an aim or
-// a wheel before a Driven is read. But an older one is not told from a newer one of the same vehicle: it drives what
-// was aimed last, or reads what was driven last.
+// that call took its moment away: controls or a wheel before an Aimed drives, a drive before it drives again, a wheel
+// before a Driven is read. One of an earlier aim throws a std::logic_error.
 //
 // About numbers: the library and libvehicle_help.a give the same bits whatever the host is compiled with, and this
 // header does no arithmetic. The host's own arithmetic, as moving the chassis or casting rays, may differ in the last
@@ -610,8 +609,18 @@ private:
             report_(detail::finding_of(one));
     }
 
+    // Holds an Aimed or a Driven to the aim that it is of.
+    void expect(uint64_t frame) const
+    {
+        if (frame != frames_)
+            throw std::logic_error("this is of an earlier aim of the vehicle: its rays and its wheels are gone");
+    }
+
+    friend class Aimed;
+    friend class Driven;
     std::array<float, VEHICLE_TABLE_LEN> table_{};
     std::array<uint32_t, VEHICLE_WHOLE_LEN> whole_{};
+    uint64_t frames_ = 0; // how many aims were accepted
     std::function<void(const Finding&)> report_;
 };
 
@@ -632,16 +641,19 @@ public:
     // The tyre is drawn at its settled.
     Reading read(uint32_t wheel) const
     {
+        vehicle_->expect(frame_);
         return vehicle_->read_wheel(wheel);
     }
 
 private:
     friend class Aimed;
-    Driven(const Vehicle& vehicle, const Velocity& velocity) : vehicle_(&vehicle), velocity_(velocity)
+    Driven(const Vehicle& vehicle, const Velocity& velocity)
+        : vehicle_(&vehicle), frame_(vehicle.frames_), velocity_(velocity)
     {
     }
 
     const Vehicle* vehicle_;
+    uint64_t frame_;
     Velocity velocity_;
 };
 
@@ -666,13 +678,15 @@ public:
     // Drives by one step of dt seconds, with one answer for each sight. After a refusal the Aimed can still be driven.
     Driven drive(float dt, std::span<const GroundBody> bodies, std::span<const RayAnswer> answers)
     {
+        vehicle_->expect(frame_);
         return Driven(*vehicle_, vehicle_->drive(dt, bodies, answers));
     }
 
 private:
     friend class Vehicle;
     Aimed(Vehicle& vehicle, const std::array<float, VEHICLE_AIM_LEN>& results)
-        : vehicle_(&vehicle), count_(vehicle.wheel_count()), results_(std::bit_cast<Results>(results))
+        : vehicle_(&vehicle), frame_(vehicle.frames_), count_(vehicle.wheel_count()),
+          results_(std::bit_cast<Results>(results))
     {
     }
 
@@ -682,6 +696,7 @@ private:
     };
 
     Vehicle* vehicle_;
+    uint64_t frame_;
     uint32_t count_;
     Results results_;
 };
@@ -690,7 +705,7 @@ inline void Vehicle::set_controls(uint32_t wheel, const Controls& controls)
 {
     const auto set = [this, wheel](auto call, auto explain, auto look, const auto& numbers) {
         detail::ask(call, explain, table_, whole_, wheel, numbers);
-        doubt(look, wheel, numbers.data());
+        doubt(look, whole_.data(), wheel, numbers.data());
     };
     const auto& [x, y, z, w] = controls.steering.turn;
     if (controls.steering.by_angle)
@@ -706,7 +721,8 @@ inline Aimed Vehicle::aim(const Chassis& chassis) &
     const auto numbers = std::bit_cast<std::array<float, VEHICLE_CHASSIS_LEN>>(chassis);
     std::array<float, VEHICLE_AIM_LEN> results{};
     detail::ask(vehicle_aim, vehicle_explain_aim, table_, whole_, numbers, results);
-    doubt(vehicle_doubts_aim, numbers.data());
+    frames_++;
+    doubt(vehicle_doubts_aim, whole_.data(), numbers.data());
     return Aimed(*this, results);
 }
 

@@ -54,9 +54,9 @@ vehicle_finding vehicle_explain_read_wheel(uint32_t answer, const float *table, 
 
 size_t vehicle_doubts_set_up(uint32_t up, uint32_t forward, vehicle_finding *doubts, size_t most);
 size_t vehicle_doubts_add_wheel(const uint32_t whole[VEHICLE_WHOLE_LEN], const float settings[VEHICLE_SETTINGS_LEN], vehicle_finding *doubts, size_t most);
-size_t vehicle_doubts_set_controls_by_angle(uint32_t wheel, const float controls[VEHICLE_CONTROLS_BY_ANGLE_LEN], vehicle_finding *doubts, size_t most);
-size_t vehicle_doubts_set_controls(uint32_t wheel, const float controls[VEHICLE_CONTROLS_LEN], vehicle_finding *doubts, size_t most);
-size_t vehicle_doubts_aim(const float chassis[VEHICLE_CHASSIS_LEN], vehicle_finding *doubts, size_t most);
+size_t vehicle_doubts_set_controls_by_angle(const uint32_t whole[VEHICLE_WHOLE_LEN], uint32_t wheel, const float controls[VEHICLE_CONTROLS_BY_ANGLE_LEN], vehicle_finding *doubts, size_t most);
+size_t vehicle_doubts_set_controls(const uint32_t whole[VEHICLE_WHOLE_LEN], uint32_t wheel, const float controls[VEHICLE_CONTROLS_LEN], vehicle_finding *doubts, size_t most);
+size_t vehicle_doubts_aim(const uint32_t whole[VEHICLE_WHOLE_LEN], const float chassis[VEHICLE_CHASSIS_LEN], vehicle_finding *doubts, size_t most);
 size_t vehicle_doubts_drive(const float table[VEHICLE_TABLE_LEN], float dt, const float *bodies, size_t bodies_len, const uint32_t *kinds, size_t kinds_len, const float *rays, size_t rays_len, vehicle_finding *doubts, size_t most);
 
 /* ---- The lists of vehicle.h from what a host has. ----

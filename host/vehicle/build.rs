@@ -20,7 +20,7 @@ fn main() {
     }
     if let Some(missing) = archives.iter().find(|archive| !archive.is_file()) {
         println!(
-            "cargo::warning={} is not there, so nothing can be linked: run tools/archive, or set VEHICLE_LIB to the folder of the installed libraries",
+            "cargo::warning={} is not there, so nothing can be linked: run tools/archive, or set VEHICLE_LIB to the folder of the installed libraries, by a path from the root",
             missing.display()
         );
         return;

@@ -169,12 +169,12 @@ impl Vehicle {
         controls: &[f32; N],
         call: impl FnOnce(&mut [f32], &mut [u32], u32, &[f32]) -> u32,
         explain: impl FnOnce(u32, &[f32], &[u32], u32, &[f32]) -> Option<Finding>,
-        doubts: impl FnOnce(u32, &[f32; N]) -> Vec<Finding>,
+        doubts: impl FnOnce(&[u32; len::WHOLE], u32, &[f32; N]) -> Vec<Finding>,
     ) -> Result<(), Refused> {
         let (table, whole) = (&mut self.table[..], &mut self.whole);
         let number = call(table, whole, wheel, controls);
         Refused::unless_accepted(number, || explain(number, table, whole, wheel, controls))?;
-        self.doubt(|_| doubts(wheel, controls));
+        self.doubt(|whole| doubts(whole, wheel, controls));
         Ok(())
     }
 
@@ -186,7 +186,7 @@ impl Vehicle {
         Refused::unless_accepted(number, || {
             help::explain_aim(number, table, whole, &chassis, &results)
         })?;
-        self.doubt(|_| help::doubts_aim(&chassis));
+        self.doubt(|whole| help::doubts_aim(whole, &chassis));
         Ok(Aimed { speed: results[0], sights: flat::sights(&results), vehicle: self })
     }
 

@@ -273,13 +273,25 @@ fn a_strict_vehicle_doubts_a_wheel_and_its_controls() {
     starts(one_wheel(stiff), &["wheel 0: stiffness 30000, ", "wheel 0: damping 3000, "]);
     let untuned = ["wheel 0: travel 5, ", "wheel 0: slip 10.5, "];
     starts(one_wheel(mount(0.0, 0.0).wheel()), &untuned);
+    let empty = WheelSettings { stiffness: 0.0, slip: 0.0, most_force: 0.0, ..wheel };
+    starts(
+        one_wheel(empty),
+        &["wheel 0: stiffness 0, ", "wheel 0: slip 0, ", "wheel 0: most_force 0, "],
+    );
+    starts(one_wheel(WheelSettings { radius: 30.0, ..wheel }), &["wheel 0: radius 30, "]);
+    let up = ["wheel 0: part of the direction along up 1, "];
+    starts(one_wheel(WheelSettings { direction: UP, ..wheel }), &up);
     let controls = Controls { steering: Steering::Angle(0.5), ..Controls::default() };
-    starts(one_control(Controls { engine: 3000.0, brake: 60.0, ..controls }), &[]);
+    starts(one_control(Controls { engine: 3000.0, ..controls }), &[]);
+    starts(one_control(Controls { brake: 60.0, ..controls }), &[]);
+    let both = ["wheel 0: brake 60, a wheel whose engine is not 0 ignores its brake. "];
+    starts(one_control(Controls { engine: 3000.0, brake: 60.0, ..controls }), &both);
     starts(one_control(Controls { engine: -90_000.0, ..controls }), &["wheel 0: engine -90000, "]);
     starts(one_control(Controls { brake: 5000.0, ..controls }), &["wheel 0: brake 5000, "]);
     let first = Rotation { x: 1.0, w: 0.0, ..Rotation::IDENTITY };
     let steering = Steering::Rotation(first);
-    starts(one_control(Controls { steering, ..controls }), &["wheel 0: steering.w 0, "]);
+    let said = ["wheel 0: up part of up turned by the steering -1, "];
+    starts(one_control(Controls { steering, ..controls }), &said);
 }
 
 /// A wheel rolls toward up × axle: x for the axle z where y is up, and so on round.
@@ -288,8 +300,9 @@ fn a_strict_vehicle_doubts_a_wheel_that_does_not_roll_forward() {
     let [x, y, z] = [Vector::new(1.0, 0.0, 0.0), UP, ACROSS];
     let minus = |v: Vector| Vector::new(-v.x, -v.y, -v.z);
     let said = |up: Axis, forward: Axis, axle: Vector| -> Vec<f64> {
+        let direction = minus([x, y, z][up as usize]);
         let found = doubts(up, forward, |mut car| {
-            car.add_wheel(&WheelSettings { axle, ..wheel() }).map(|_| ())
+            car.add_wheel(&WheelSettings { direction, axle, ..wheel() }).map(|_| ())
         });
         found.expect("accepted").iter().map(|doubt| doubt.value).collect()
     };
@@ -337,7 +350,12 @@ fn a_strict_vehicle_doubts_a_chassis_and_a_step() {
     let inertia = Inertia { xx: 500.0, ..chassis.inverse_inertia };
     starts(one_aim(Chassis { inverse_inertia: inertia, ..chassis }), &["inverse_inertia.xx 500, "]);
     let rotation = Rotation { x: 1.0, w: 0.0, ..Rotation::IDENTITY };
-    starts(one_aim(Chassis { rotation, ..chassis }), &["rotation.w 0, that is half a turn"]);
+    let on_its_head = "up part of the chassis' up -1, 1 is upright and -1 upside down. ";
+    starts(one_aim(Chassis { rotation, ..chassis }), &[on_its_head]);
+    // A turn about up, with w first; and with w last, which is upright.
+    let turned = |[x, y, z, w]: [f32; 4]| Chassis { rotation: Rotation { x, y, z, w }, ..chassis };
+    starts(one_aim(turned([0.8, 0.0, 0.6, 0.0])), &["up part of the chassis' up -1"]);
+    starts(one_aim(turned([0.0, 0.6, 0.0, 0.8])), &[]);
     let step = |dt: f32, inverse_mass: f32| {
         let raft = GroundBody { inverse_mass, ..GroundBody::default() };
         reported(|mut car| Ok(car.aim(&chassis)?.drive(dt, &[raft], &[]).map(|_| ())?))

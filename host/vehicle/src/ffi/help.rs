@@ -124,18 +124,25 @@ mod library {
             most: usize,
         ) -> usize;
         pub fn vehicle_doubts_set_controls(
+            whole: *const u32,
             wheel: u32,
             controls: *const f32,
             doubts: *mut Found,
             most: usize,
         ) -> usize;
         pub fn vehicle_doubts_set_controls_by_angle(
+            whole: *const u32,
             wheel: u32,
             controls: *const f32,
             doubts: *mut Found,
             most: usize,
         ) -> usize;
-        pub fn vehicle_doubts_aim(chassis: *const f32, doubts: *mut Found, most: usize) -> usize;
+        pub fn vehicle_doubts_aim(
+            whole: *const u32,
+            chassis: *const f32,
+            doubts: *mut Found,
+            most: usize,
+        ) -> usize;
         pub fn vehicle_doubts_drive(
             table: *const f32,
             dt: f32,
@@ -215,25 +222,34 @@ pub fn doubts_add_wheel(
 }
 
 /// What is hardly meant of controls with a rotation.
-pub fn doubts_set_controls(wheel: u32, controls: &[f32; len::CONTROLS]) -> Vec<Finding> {
+pub fn doubts_set_controls(
+    whole: &[u32; len::WHOLE],
+    wheel: u32,
+    controls: &[f32; len::CONTROLS],
+) -> Vec<Finding> {
     doubts(|list, most| unsafe {
-        library::vehicle_doubts_set_controls(wheel, controls.as_ptr(), list, most)
+        let (whole, controls) = (whole.as_ptr(), controls.as_ptr());
+        library::vehicle_doubts_set_controls(whole, wheel, controls, list, most)
     })
 }
 
 /// What is hardly meant of controls with an angle.
 pub fn doubts_set_controls_by_angle(
+    whole: &[u32; len::WHOLE],
     wheel: u32,
     controls: &[f32; len::CONTROLS_BY_ANGLE],
 ) -> Vec<Finding> {
     doubts(|list, most| unsafe {
-        library::vehicle_doubts_set_controls_by_angle(wheel, controls.as_ptr(), list, most)
+        let (whole, controls) = (whole.as_ptr(), controls.as_ptr());
+        library::vehicle_doubts_set_controls_by_angle(whole, wheel, controls, list, most)
     })
 }
 
 /// What is hardly meant of a chassis.
-pub fn doubts_aim(chassis: &[f32; len::CHASSIS]) -> Vec<Finding> {
-    doubts(|list, most| unsafe { library::vehicle_doubts_aim(chassis.as_ptr(), list, most) })
+pub fn doubts_aim(whole: &[u32; len::WHOLE], chassis: &[f32; len::CHASSIS]) -> Vec<Finding> {
+    doubts(|list, most| unsafe {
+        library::vehicle_doubts_aim(whole.as_ptr(), chassis.as_ptr(), list, most)
+    })
 }
 
 /// What is hardly meant of what a drive was handed.
