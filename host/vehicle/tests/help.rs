@@ -404,8 +404,10 @@ fn bytes_that_are_no_vehicle_are_refused() -> Result<(), Refused> {
     assert!(why(&[&bytes[..], &[0]].concat()).is_some(), "one more");
     assert!(with(0, 1).contains("not a saved vehicle"));
     assert!(with(8, 3).contains("in a version"));
-    assert!(with(12, 1).contains("a table of another size"), "{}", with(12, 1));
-    assert!(with(16, 1).contains("a table of another size"));
+    for (place, bit) in [(12, 1), (12, 2), (16, 1), (16, 4)] {
+        let said = with(place, bit);
+        assert!(said.contains("a table of another size"), "byte {place}: {said}");
+    }
     for place in 20..bytes.len() {
         assert!(with(place, 0x40).contains("something has changed"), "byte {place}");
     }
