@@ -49,8 +49,8 @@ vehicle_finding vehicle_explain_read_wheel(uint32_t answer, const float *table, 
 
 /* ---- What is accepted and hardly meant: the strict mode. ----
  *
- * Each looks at what was handed to an accepted call, writes at most `most` findings, and gives how many there are: with 0 for `most` it only
- * counts them, and `doubts` may be NULL. */
+ * Each looks at what was handed to an accepted call, with the vehicle's numbers after it, writes at most `most` findings, and gives how many
+ * there are: with 0 for `most` it only counts them, and `doubts` may be NULL. */
 
 size_t vehicle_doubts_set_up(uint32_t up, uint32_t forward, vehicle_finding *doubts, size_t most);
 size_t vehicle_doubts_add_wheel(const uint32_t whole[VEHICLE_WHOLE_LEN], const float settings[VEHICLE_SETTINGS_LEN], vehicle_finding *doubts, size_t most);

@@ -11,7 +11,7 @@ use lent::{
     accepted, by_angle, chassis, controls, drive, moments, settings, Call, Drive, Lent, BY_ANGLE,
     FORWARD, MARK, UP, WHEELS,
 };
-use vehicle_controller::ffi::{kind, len};
+use vehicle_controller::ffi::{help, kind, len};
 use vehicle_controller::Finding;
 
 const HANDED: f32 = 1_048_576.0; // 2^20
@@ -53,6 +53,10 @@ fn explained(what: &str, state: &Lent, call: &Call, answer: u32) -> Option<Findi
     }
     let culprit = state.explain(answer, call);
     assert_eq!(culprit.is_some(), answer != 0, "{what}: {answer} is not explained");
+    let is_whole = |found: &Finding| {
+        found.bound.len() + 1 < help::BOUND && found.words.len() + 1 < help::WORDS
+    };
+    assert!(culprit.as_ref().is_none_or(is_whole), "{what}: cut short: {culprit:?}");
     culprit
 }
 
