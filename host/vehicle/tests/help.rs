@@ -369,6 +369,23 @@ fn a_strict_vehicle_doubts_a_chassis_and_a_step() {
     assert_eq!(many.map(|list| list.len()), Ok(65), "each body, and the time step");
 }
 
+/// A crowd is driven on many threads, strict vehicles too.
+#[test]
+fn vehicles_go_to_other_threads() -> Result<(), Refused> {
+    let heard = Arc::new(Mutex::new(0));
+    let count = Arc::clone(&heard);
+    let car = car()?.strict(move |_| *count.lock().expect("a count") += 1);
+    let drive = |mut car: Vehicle| {
+        move || car.set_controls(0, &Controls { brake: 5000.0, ..Controls::default() })
+    };
+    let threads: Vec<_> = (0..4).map(|_| std::thread::spawn(drive(car.clone()))).collect();
+    for thread in threads {
+        thread.join().expect("a thread that ends")?;
+    }
+    assert_eq!(*heard.lock().expect("a count"), 4);
+    Ok(())
+}
+
 #[test]
 fn a_restored_vehicle_drives_on() -> Result<(), Refused> {
     let mut car = car()?;
