@@ -8,6 +8,7 @@
 #define UNIT_LOW 0.9f
 #define UNIT_HIGH 1.1f
 #define HALF 0.5f
+#define UPRIGHT 0.9f
 #define MOST_INVERSE_MASS 1.0f
 #define MOST_INVERSE_INERTIA 10.0f
 #define MOST_LEVER 10.0f
@@ -113,14 +114,20 @@ size_t vehicle_doubts_add_wheel(const uint32_t whole[VEHICLE_WHOLE_LEN], const f
 
 /* ---- Controls ---- */
 
-/* Read as x, y, z, w, a quaternion that has w first stands on its head where it should stand upright. */
-static void upright(struct doubts *doubts, int32_t wheel, uint32_t up, const char *field, const float *q)
+/* The part of the up axis that points up once it is turned by the rotation of these x, y, z parts: 1 is upright. */
+static float upward(uint32_t up, const float *parts)
 {
-    float next = q[(up + 1) % 3], last = q[(up + 2) % 3], upward = 1 - 2 * (next * next + last * last);
+    float next = parts[(up + 1) % 3], last = parts[(up + 2) % 3];
+    return 1 - 2 * (next * next + last * last);
+}
+
+/* A rotation that is not upright, and would be if its four numbers were w, x, y, z. */
+static void w_first(struct doubts *doubts, int32_t wheel, uint32_t up, const char *field, const float *q)
+{
     vehicle_finding finding;
-    if (upward > -HALF)
+    if (upward(up, q) >= HALF || upward(up, q + 1) < UPRIGHT)
         return;
-    finding = found(field, upward, "1 is upright and -1 upside down", 0, "A quaternion is x, y, z, w in this order: with w first an upright one is upside down. A car on its roof is so too.");
+    finding = found(field, upward(up, q), "upright it is 1, as it would be if the first number were w", 0, "A quaternion is x, y, z, w in this order. A car on its roof looks the same.");
     finding.wheel = wheel;
     doubt(doubts, finding);
 }
@@ -147,7 +154,7 @@ size_t vehicle_doubts_set_controls(const uint32_t whole[VEHICLE_WHOLE_LEN], uint
 {
     struct doubts doubts = {list, most, 0};
     effort(&doubts, wheel, controls);
-    upright(&doubts, (int32_t)wheel, whole[UP], "up part of up turned by the steering", controls + STEERING);
+    w_first(&doubts, (int32_t)wheel, whole[UP], "up part of up turned by the steering", controls + STEERING);
     return doubts.count;
 }
 
@@ -178,7 +185,7 @@ size_t vehicle_doubts_aim(const uint32_t whole[VEHICLE_WHOLE_LEN], const float c
     if (length(lever) > MOST_LEVER)
         doubt(&doubts, found("distance from translation to centre_of_mass", length(lever), "a car has less than a metre", 0, "A chassis takes the centre of mass in world space, a rigid body the local one, from its position."));
     masses(&doubts, chassis);
-    upright(&doubts, VEHICLE_NONE, whole[UP], "up part of the chassis' up", chassis + ORIENTATION);
+    w_first(&doubts, VEHICLE_NONE, whole[UP], "up part of the chassis' up", chassis + ORIENTATION);
     return doubts.count;
 }
 

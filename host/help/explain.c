@@ -161,7 +161,7 @@ static vehicle_finding wrong_moment_to_read(const struct lent *lent)
     if (lent->whole[MARK] == DRIVEN)
         return nothing_found(0);
     if (lent->whole[MARK] == AIMED)
-        return found("mark", AIMED, "that is aimed: the vehicle is not driven yet", 0, "Drive first, then read: since the aim there is no wheel of the frame before.");
+        return found("mark", AIMED, "that is aimed: the vehicle is not driven yet", 0, "Drive first, then read: the aim has replaced the wheels of the frame before.");
     return found("mark", NEW, "that is new: the vehicle has not been driven", 0, "Aim, cast the rays, drive, and then read. A wheel that was added, and controls that were set after an aim, call for that too.");
 }
 

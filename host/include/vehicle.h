@@ -63,7 +63,7 @@ extern "C" {
 /* There is no wheel of this number. Wheels are numbered from 0 in the order in which they were added. */
 #define VEHICLE_NO_SUCH_WHEEL 4
 /* A drive without an aim before it, or a read without a drive before it. Controls that were set, or a wheel that was added, after the aim: aim
- * again, cast again, then drive. A read after an aim, or after a wheel was added: drive first. */
+ * again, cast again, then drive. A read after an aim: drive first; after a wheel was added: aim and drive first. */
 #define VEHICLE_WRONG_MOMENT 5
 /* The lists of a drive: not one ray answer for each wheel, over 64 bodies, lists whose lengths do not fit together, a flag that is not 0 or 1,
  * an unknown kind, a time that is NaN or not from 0 to 1, a body that is not in the list. */
@@ -105,7 +105,8 @@ uint32_t vehicle_add_wheel(float *table, size_t table_len, uint32_t *whole, size
  * controls, VEHICLE_CONTROLS_BY_ANGLE_LEN: engine force; brake; steering, an angle in radians from -2 to 2.
  * Each aim turns the axle by the angle about minus the wheel's direction in the world, which that aim works out and makes unit length: the
  * wheel stays steered when the chassis turns, with no new call, and how long the direction is does not matter.
- * Which way is positive: to the left where the suspension points down; docs/NUMBERS.md has an example in numbers.
+ * Which way is positive: to the left where the suspension points down (in a left-handed scene to the right); docs/NUMBERS.md has an example in
+ * numbers.
  * Refuses, the first that holds: 1; 4; 2; 10, a brake below 0, or an angle not from -2 to 2. A direction that an angle cannot turn about is
  * refused at the aim: VEHICLE_BAD_TURN. */
 uint32_t vehicle_set_controls_by_angle(float *table, size_t table_len, uint32_t *whole, size_t whole_len, uint32_t wheel, const float *controls, size_t controls_len);

@@ -100,7 +100,7 @@ struct WheelSettings {
     float stiffness = 0;
     float compression = 0; // the suspension's damping while it is compressed
     float damping = 0;     // the suspension's damping while it is released
-    float travel = 0;      // how far it moves to each side of its rest length
+    float travel = 0;      // how far it can be pressed below its rest length
     float side_stiffness = 0;
     float slip = 0; // how much grip the tyre has
     float most_force = 0;
@@ -271,7 +271,7 @@ struct Reading {
     float forward = 0;       // the tyre's impulse along its rolling direction
     float side = 0;          // the tyre's impulse along its axis
     float skid = 0;          // 1 where the tyre grips, below 1 where it slides
-    float rotation = 0;      // about the axle, in radians
+    float rotation = 0;      // how far it has rolled, in radians, above 0 forward
     Vector settled{};        // where the tyre is drawn
     bool no_axis = false;    // the axle has no direction on the ground: a dead tyre
     bool no_forward = false; // the tyre has no rolling direction

@@ -37,7 +37,7 @@ size_t vehicle_words(const vehicle_finding *finding, char *text, size_t text_len
 /* ---- Why a call was refused. ----
  *
  * Each takes what the call answered and then exactly what the call was handed, as it was handed. A refusal changes nothing, so that is still
- * there. For an answer that the call does not give for these arguments the field of the finding is NULL. */
+ * there. Ask only for what the call answered: for 0, and for a refusal that is tested before the one that was given, the field is NULL. */
 
 vehicle_finding vehicle_explain_set_up(uint32_t answer, const float *table, size_t table_len, const uint32_t *whole, size_t whole_len, uint32_t up, uint32_t forward);
 vehicle_finding vehicle_explain_add_wheel(uint32_t answer, const float *table, size_t table_len, const uint32_t *whole, size_t whole_len, const float *settings, size_t settings_len);
@@ -106,7 +106,7 @@ float vehicle_make_time(const float ray[3], float distance);
 
 /* ---- A vehicle as bytes. ---- */
 
-/* A mark, a version, the sizes of the two arrays, their numbers with the lowest byte first, and a sum over all that. */
+/* A name, a version, the sizes of the two arrays, their numbers with the lowest byte first, and a sum over all that. */
 #define VEHICLE_SAVED_LEN (20 + 4 * (VEHICLE_TABLE_LEN + VEHICLE_WHOLE_LEN) + 4)
 #define VEHICLE_SAVED_VERSION 1
 

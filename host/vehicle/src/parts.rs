@@ -188,7 +188,7 @@ pub struct WheelSettings {
     pub compression: f32,
     /// Its damping while it is released.
     pub damping: f32,
-    /// How far it moves to each side of its rest length.
+    /// How far it can be pressed below its rest length.
     pub travel: f32,
     /// How strongly the tyre resists sideways.
     pub side_stiffness: f32,
@@ -210,7 +210,8 @@ impl WheelSettings {
 #[derive(Clone, Copy, Debug, PartialEq)]
 pub enum Steering {
     /// By an angle in radians, from -2 to 2. Each aim turns the axle by it about minus the wheel's direction in the world, so that the wheel
-    /// stays steered when the chassis turns. Positive is to the left where the suspension points down.
+    /// stays steered when the chassis turns. Positive is to the left where the suspension points down; in a left-handed
+    /// scene to the right.
     Angle(f32),
     /// By a rotation in world space. Set it anew before the aim when the chassis has turned.
     Rotation(Rotation),
@@ -346,7 +347,7 @@ pub struct Reading {
     pub side: f32,
     /// 1 where the tyre grips, below 1 where it slides.
     pub skid: f32,
-    /// The wheel's turn about its axle, in radians.
+    /// How far the wheel has rolled, in radians, above 0 forward. A tyre is drawn turned about its axle by minus this.
     pub rotation: f32,
     /// The settled centre, where the tyre is drawn: at this drive's length.
     pub settled: Vector,

@@ -350,12 +350,19 @@ fn a_strict_vehicle_doubts_a_chassis_and_a_step() {
     let inertia = Inertia { xx: 500.0, ..chassis.inverse_inertia };
     starts(one_aim(Chassis { inverse_inertia: inertia, ..chassis }), &["inverse_inertia.xx 500, "]);
     let rotation = Rotation { x: 1.0, w: 0.0, ..Rotation::IDENTITY };
-    let on_its_head = "up part of the chassis' up -1, 1 is upright and -1 upside down. ";
+    let on_its_head = "up part of the chassis' up -1, upright it is 1, as it would be if ";
     starts(one_aim(Chassis { rotation, ..chassis }), &[on_its_head]);
     // A turn about up, with w first; and with w last, which is upright.
     let turned = |[x, y, z, w]: [f32; 4]| Chassis { rotation: Rotation { x, y, z, w }, ..chassis };
     starts(one_aim(turned([0.8, 0.0, 0.6, 0.0])), &["up part of the chassis' up -1"]);
     starts(one_aim(turned([0.0, 0.6, 0.0, 0.8])), &[]);
+    starts(one_aim(turned([0.6, 0.0, 0.0, 0.8])), &[]); // on its side
+    let z_up = |rotation: [f32; 4]| {
+        let chassis = Chassis { rotation: Rotation::xyzw(rotation), ..chassis };
+        words_of(doubts(Axis::Z, Axis::X, |mut car| car.aim(&chassis).map(|_| ())))
+    };
+    starts(z_up([0.8, 0.0, 0.0, 0.6]), &["up part of the chassis' up -0.2"]);
+    starts(z_up([0.0, 0.0, 0.6, 0.8]), &[]);
     let step = |dt: f32, inverse_mass: f32| {
         let raft = GroundBody { inverse_mass, ..GroundBody::default() };
         reported(|mut car| Ok(car.aim(&chassis)?.drive(dt, &[raft], &[]).map(|_| ())?))
