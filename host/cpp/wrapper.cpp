@@ -84,7 +84,9 @@ template <typename Type>
 concept SightsOfTemporary = requires(Type type) { std::move(type).sights(); };
 template <typename Type>
 concept AimOfTemporary = requires(Type type) { std::move(type).aim(Chassis{}); };
-static_assert(!SightsOfTemporary<Aimed> && !AimOfTemporary<Vehicle>);
+template <typename Type>
+concept AimOfStrictTemporary = requires(Type type) { std::move(type).strict({}).aim(Chassis{}); };
+static_assert(!SightsOfTemporary<Aimed> && !AimOfTemporary<Vehicle> && !AimOfStrictTemporary<Vehicle>);
 
 // ---- The car of small_car.c ----
 
@@ -316,6 +318,12 @@ static void earlier_aims()
     const Driven next = second.drive(0.5f, {}, flat(4));
     CHECK(is_of_an_earlier_aim([&] { driven.read(0); }));
     CHECK(next.read(0) == car.read_wheel(0));
+
+    const Vehicle before = car;
+    Aimed gone = car.aim(moving({12, 0, 5}));
+    car = before;
+    car.aim(moving({1, 0, 0}));
+    CHECK(is_of_an_earlier_aim([&] { gone.drive(0.5f, {}, flat(4)); }));
 }
 
 static void named_fields()
@@ -525,6 +533,18 @@ static void doubted_frames()
     CHECK(reports.are("brake", "wheel 0: brake 5000"));
     copy.strict({}).set_controls(0, {.brake = 5000});
     CHECK(reports.list.empty());
+
+    // A report may end the mode that it is told by.
+    Vehicle once = car;
+    int told = 0;
+    once.strict([&, text = std::string(64, 'x')](const Finding&) {
+        once.strict({});
+        told += text.size() == 64;
+    });
+    once.set_controls(0, {.engine = 90000, .brake = 5000});
+    CHECK(told == 3);
+    once.set_controls(0, {.engine = 90000, .brake = 5000});
+    CHECK(told == 3);
 }
 
 // A car of 1200 kg on four wheels at its corners, half a metre above the ground that it stands on.

@@ -72,10 +72,10 @@ static float rolls_forward(const uint32_t *whole, const float *axle)
 static void directions(struct doubts *doubts, const uint32_t *whole, const float *settings)
 {
     const float *direction = settings + DIRECTION, *axle = settings + AXLE;
-    uint32_t wheel = whole[COUNT] - 1;
+    uint32_t wheel = whole[COUNT] - 1, up = whole[UP] % 3; /* whatever the whole numbers hold */
     unit(doubts, wheel, "length of the direction", direction, "The ray would be that many times as long as rest_length + radius; a zero direction has no ray. Normalise it.");
-    if (is_unit(direction) && direction[whole[UP]] > -HALF)
-        doubt(doubts, of_wheel(found("part of the direction along up", direction[whole[UP]], "a suspension that points down has -1", 0, "The ray starts at the connection and goes where the direction points: turn it down."), wheel));
+    if (is_unit(direction) && direction[up] > -HALF)
+        doubt(doubts, of_wheel(found("part of the direction along up", direction[up], "a suspension that points down has -1", 0, "The ray starts at the connection and goes where the direction points: turn it down."), wheel));
     unit(doubts, wheel, "length of the axle", axle, "Only where it points counts, but with a zero axle the tyre neither rolls nor holds. Normalise it.");
     if (is_unit(axle) && whole[UP] != whole[FORWARD] && rolls_forward(whole, axle) < HALF)
         doubt(doubts, of_wheel(found("rolling direction along the forward axis", rolls_forward(whole, axle), "it is 1 where an engine above 0 drives forward", 0, "The wheel rolls toward up x axle: turn the axle round, or set up with another forward axis."), wheel));

@@ -77,7 +77,7 @@ static int is_vehicle(const struct lent *lent)
 static const char *why_bad(float value)
 {
     if (isnan(value))
-        return "It is not a number: look for 0/0, a zero vector that was normalised, or a variable that was never set.";
+        return "It is not a number: look for 0/0, a zero vector that was normalised, an inertia of 0, or a variable that was never set.";
     if (isinf(value))
         return "Look for a division by zero where it is worked out, as by a mass or a time step of 0.";
     return "It is far beyond a car's: look for a wrong unit, or a value that grows from frame to frame.";
@@ -193,7 +193,7 @@ static vehicle_finding bad_answer(const struct lists *lists, uint32_t wheel)
     if (lists->kinds[wheel] == VEHICLE_NOTHING)
         return nothing_found(0);
     if (!(ray[TIME] >= 0 && ray[TIME] <= 1))
-        return found("hit time", ray[TIME], "times are fractions of the ray from 0 to 1", 0, "Divide the distance to the hit by the length of the ray; a hit beyond its end is no hit.");
+        return found("hit time", ray[TIME], "times are fractions of the ray from 0 to 1", 0, ray[TIME] < 0 ? "The ray starts below the ground: hand in 0 with the ground's normal." : "Divide the distance to the hit by the length of the ray; a hit beyond its end is no hit.");
     if (lists->named[wheel] > lists->dynamic_len)
         return found("ground body", lists->named[wheel] - 1.0, "this drive has %llu, numbered from 0", lists->dynamic_len, "Name the body by its place in the list of this very drive, or none.");
     return nothing_found(0);
@@ -379,7 +379,7 @@ static vehicle_finding wild_aim(const struct lent *lent, const float *chassis)
     float table[VEHICLE_TABLE_LEN];
     memcpy(table, lent->table, sizeof table);
     would_aim(table, lent->whole[COUNT], chassis);
-    return beyond_stored(table, lent->whole[COUNT], "The aim would store this. Look at the chassis' translation and at the wheel's connection point: they are too far from the origin.");
+    return beyond_stored(table, lent->whole[COUNT], "The aim would store this. Look for a translation or a connection point far from the origin, or a direction far from length one.");
 }
 
 static vehicle_finding wild_demand(const float *row, float limit)

@@ -43,7 +43,7 @@ static void put_number(double value, char text[32])
         strcpy(text, "NaN");
     } else if (isinf(value)) {
         strcpy(text, value < 0 ? "-infinity" : "infinity");
-    } else if (fabs(value) < 1e9 && value == (double)(long)value) {
+    } else if (fabs(value) < 1e15 && value == (double)(long long)value) {
         snprintf(text, 32, "%.0f", value);
     } else {
         do

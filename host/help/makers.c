@@ -71,9 +71,14 @@ void vehicle_make_chassis(const vehicle_rigid_body *of, float chassis[VEHICLE_CH
         chassis[EFFECTIVE + axis] = of->locked[axis] ? 0 : chassis[INVMASS];
 }
 
+/* A chassis hands its rotation on, and an aim tests it; a ground body has none, so what it turned is no number where it was not of unit length. */
 void vehicle_make_ground(const vehicle_rigid_body *of, float body[VEHICLE_BODY_LEN])
 {
+    const float *q = of->rotation;
+    float squared = ((q[0] * q[0] + q[1] * q[1]) + q[2] * q[2]) + q[3] * q[3];
     motion(of, body, body + BODY_INERTIA);
+    if (!(squared >= BAND_LOW && squared <= BAND_HIGH))
+        body[BODY_INERTIA] = NAN;
 }
 
 void vehicle_make_box_inertia(float mass, const float size[3], float inertia[6])

@@ -14,6 +14,9 @@
  * Each call answers 0, accepted, or a refusal: one of the numbers VEHICLE_... below. A refusal changes nothing that was lent: not the table,
  * not the whole numbers, not the results. Each call takes every float, NaN and the infinities included, and every content of the two arrays.
  *
+ * The processor has to be in its usual floating-point mode: rounding to nearest, tiny numbers kept. A program that is linked with -Ofast or
+ * -ffast-math, or sets that mode by itself, has tiny numbers taken for zero, and then the last bits may be others.
+ *
  * What the compiler cannot see, and the host owes: a pointer is not null, points to as many numbers as the length after it says, and is not
  * null for a length of 0 either; what a call may write (table, whole, results) overlaps nothing else that the same call is handed.
  */

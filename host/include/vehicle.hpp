@@ -22,8 +22,8 @@
 // that call took its moment away: controls or a wheel before an Aimed drives, a drive before it drives again, a wheel
 // before a Driven is read. One of an earlier aim throws a std::logic_error.
 //
-// About numbers: the library and libvehicle_help.a give the same bits whatever the host is compiled with, and this
-// header does no arithmetic. The host's own arithmetic, as moving the chassis or casting rays, may differ in the last
+// About numbers: the library and libvehicle_help.a give the same bits whatever the host is compiled with, as long as the
+// processor is in its usual floating-point mode (vehicle.h), and this header does no arithmetic. The host's own arithmetic, as moving the chassis or casting rays, may differ in the last
 // bits between compilers and flags: GCC fuses a*b+c into one rounding by default where the target has such an
 // instruction (-march=haswell or -march=native, Arm), Clang too within an expression. So a host that compares its
 // numbers compiles itself with -ffp-contract=off and without -ffast-math.
@@ -32,6 +32,7 @@
 
 #include <algorithm>
 #include <array>
+#include <atomic>
 #include <bit>
 #include <cstddef>
 #include <cstdint>
@@ -391,6 +392,13 @@ auto spread(Handed& handed)
         return std::make_tuple(start_of(handed), handed.size());
 }
 
+// A number for each accepted aim of the program, so that a vehicle that was put back to an earlier state has no aim twice.
+inline uint64_t next_frame()
+{
+    static std::atomic<uint64_t> last{0};
+    return ++last;
+}
+
 inline std::optional<uint32_t> unless_none(int32_t number)
 {
     return number == VEHICLE_NONE ? std::nullopt : std::optional(static_cast<uint32_t>(number));
@@ -569,11 +577,17 @@ public:
 
     // The strict mode: from now on each accepted call reports what is hardly meant of what it was handed, and this one
     // that of the axes. What the report throws comes out of a call that has been made. An empty function ends the mode.
-    Vehicle& strict(std::function<void(const Finding&)> report)
+    Vehicle& strict(std::function<void(const Finding&)> report) &
     {
         report_ = std::move(report);
         doubt(vehicle_doubts_set_up, whole_[detail::up_place], whole_[detail::forward_place]);
         return *this;
+    }
+
+    Vehicle strict(std::function<void(const Finding&)> report) &&
+    {
+        strict(std::move(report));
+        return std::move(*this);
     }
 
     // The vehicle as bytes, the same on every machine; the strict mode is not among them.
@@ -605,14 +619,15 @@ private:
             return;
         std::vector<vehicle_finding> doubts(look(handed..., nullptr, 0));
         look(handed..., doubts.data(), doubts.size());
+        const auto report = report_; // what it does may be to end the mode
         for (const vehicle_finding& one : doubts)
-            report_(detail::finding_of(one));
+            report(detail::finding_of(one));
     }
 
     // Holds an Aimed or a Driven to the aim that it is of.
     void expect(uint64_t frame) const
     {
-        if (frame != frames_)
+        if (frame != frame_)
             throw std::logic_error("this is of an earlier aim of the vehicle: its rays and its wheels are gone");
     }
 
@@ -620,7 +635,7 @@ private:
     friend class Driven;
     std::array<float, VEHICLE_TABLE_LEN> table_{};
     std::array<uint32_t, VEHICLE_WHOLE_LEN> whole_{};
-    uint64_t frames_ = 0; // how many aims were accepted
+    uint64_t frame_ = 0; // the last accepted aim
     std::function<void(const Finding&)> report_;
 };
 
@@ -648,7 +663,7 @@ public:
 private:
     friend class Aimed;
     Driven(const Vehicle& vehicle, const Velocity& velocity)
-        : vehicle_(&vehicle), frame_(vehicle.frames_), velocity_(velocity)
+        : vehicle_(&vehicle), frame_(vehicle.frame_), velocity_(velocity)
     {
     }
 
@@ -685,7 +700,7 @@ public:
 private:
     friend class Vehicle;
     Aimed(Vehicle& vehicle, const std::array<float, VEHICLE_AIM_LEN>& results)
-        : vehicle_(&vehicle), frame_(vehicle.frames_), count_(vehicle.wheel_count()),
+        : vehicle_(&vehicle), frame_(vehicle.frame_), count_(vehicle.wheel_count()),
           results_(std::bit_cast<Results>(results))
     {
     }
@@ -721,7 +736,7 @@ inline Aimed Vehicle::aim(const Chassis& chassis) &
     const auto numbers = std::bit_cast<std::array<float, VEHICLE_CHASSIS_LEN>>(chassis);
     std::array<float, VEHICLE_AIM_LEN> results{};
     detail::ask(vehicle_aim, vehicle_explain_aim, table_, whole_, numbers, results);
-    frames_++;
+    frame_ = detail::next_frame();
     doubt(vehicle_doubts_aim, whole_.data(), numbers.data());
     return Aimed(*this, results);
 }

@@ -62,7 +62,7 @@ size_t vehicle_doubts_drive(const float table[VEHICLE_TABLE_LEN], float dt, cons
 /* ---- The lists of vehicle.h from what a host has. ----
  *
  * They are worked out in double precision, each operation rounded once, and rounded to single precision at the end: the same bits from every
- * language, whatever the host itself is compiled with. A number that cannot be had, as the inverse of a mass of 0, is infinite or NaN in the
+ * language, whatever the host itself is compiled with, in the floating-point mode that vehicle.h asks for. A number that cannot be had, as the inverse of a mass of 0, is infinite or NaN in the
  * list, and the call that is handed it refuses it by name. */
 
 /* A rigid body, in SI units. */
@@ -81,7 +81,7 @@ typedef struct {
 void vehicle_make_chassis(const vehicle_rigid_body *of, float chassis[VEHICLE_CHASSIS_LEN]);
 
 /* The ground body that vehicle_drive takes. Hand in 1 as its flag: it is dynamic. One that never gives way has zeros but for its centre of mass
- * and velocities, and the flag 0. */
+ * and velocities, and the flag 0. Where the rotation is not of unit length, the inverse inertia is NaN, which the drive refuses. */
 void vehicle_make_ground(const vehicle_rigid_body *of, float body[VEHICLE_BODY_LEN]);
 
 /* The inertia of a solid box of these sizes along its own axes, in m. */

@@ -293,7 +293,18 @@ impl fmt::Display for NotDriven<'_> {
     }
 }
 
-impl Error for NotDriven<'_> {}
+/// So that `?` works in a function that gives any error: what is kept is why, and not the borrowed aim.
+impl From<NotDriven<'_>> for Box<dyn Error> {
+    fn from(not: NotDriven<'_>) -> Self {
+        not.refused.into()
+    }
+}
+
+impl From<NotDriven<'_>> for Box<dyn Error + Send + Sync> {
+    fn from(not: NotDriven<'_>) -> Self {
+        not.refused.into()
+    }
+}
 
 /// A vehicle that was driven and not touched since.
 #[derive(Clone, Copy, Debug)]

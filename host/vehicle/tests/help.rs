@@ -65,6 +65,51 @@ fn a_turned_body_has_its_masses_in_the_world() {
     assert_eq!((inverse_inertia, dynamic), (expected.inverse_inertia, true));
 }
 
+/// b × v, and the rotation of v by (b, w) as v + 2w (b × v) + 2 b × (b × v).
+fn cross(b: [f64; 3], v: [f64; 3]) -> [f64; 3] {
+    [b[1] * v[2] - b[2] * v[1], b[2] * v[0] - b[0] * v[2], b[0] * v[1] - b[1] * v[0]]
+}
+
+fn rotated([x, y, z, w]: [f64; 4], v: [f64; 3]) -> [f64; 3] {
+    let once = cross([x, y, z], v);
+    let twice = cross([x, y, z], once);
+    [0, 1, 2].map(|i| v[i] + 2.0 * (w * once[i] + twice[i]))
+}
+
+/// A rotation without symmetry: the world's array is the sum of each inverse times its turned axis, multiplied with itself.
+#[test]
+fn an_inertia_turns_with_its_axes() {
+    let q = [0.1, 0.5, 0.5, 0.7];
+    let (inertia, local) = ([2.0, 4.0, 8.0], [1.0, -2.0, 3.0]);
+    let body = RigidBody {
+        rotation: Rotation::xyzw(q.map(|part| part as f32)),
+        local_centre_of_mass: local.map(|part| part as f32).into(),
+        ..RigidBody::new(1.0, Inertia::diagonal(2.0, 4.0, 8.0))
+    };
+    let axes = [[1.0, 0.0, 0.0], [0.0, 1.0, 0.0], [0.0, 0.0, 1.0]].map(|axis| rotated(q, axis));
+    let part =
+        |i: usize, j: usize| -> f64 { (0..3).map(|k| axes[k][i] * axes[k][j] / inertia[k]).sum() };
+    let Chassis { inverse_inertia: given, centre_of_mass: centre, .. } = body.chassis();
+    let expected = [part(0, 0), part(0, 1), part(0, 2), part(1, 1), part(1, 2), part(2, 2)];
+    let ours = [given.xx, given.xy, given.xz, given.yy, given.yz, given.zz];
+    let pairs = ours.into_iter().zip(expected);
+    for (ours, expected) in pairs.chain(<[f32; 3]>::from(centre).into_iter().zip(rotated(q, local)))
+    {
+        assert!((f64::from(ours) - expected).abs() < 1e-6, "{ours} for {expected}");
+    }
+}
+
+/// A ground body has no rotation that a drive could test: one that was not of unit length makes it no number.
+#[test]
+fn a_ground_body_of_a_bad_rotation_is_refused() -> Result<(), Refused> {
+    let twice = Rotation { w: 2.0, ..Rotation::IDENTITY };
+    let raft = RigidBody { rotation: twice, ..body() }.ground();
+    let mut car = car()?;
+    let said = words(car.aim(&body().chassis())?.drive(0.1, &[raft], &[FLOOR; 4]));
+    assert!(said.starts_with("refused (2): ground body 0: inverse_inertia.xx NaN, "), "{said}");
+    Ok(())
+}
+
 #[test]
 fn an_inertia_is_inverted_whole() {
     // The inverse of ((2, 1, 0), (1, 2, 0), (0, 0, 4)).
@@ -204,7 +249,20 @@ fn a_finding_is_told_whole() -> Result<(), Refused> {
     assert_eq!((*wheel, *body, *field, *value), (None, None, "wheel number", 9.0));
     assert_eq!(*words, format!("{field} 9, {bound}. {advice}"));
     assert_eq!(refused.to_string(), format!("refused (4): {words}"));
+    assert_eq!(format!("{refused:?}"), refused.to_string(), "what a main that gives it prints");
     Ok(())
+}
+
+/// A refused drive goes into any error, as in the usual `main`.
+#[test]
+fn a_refused_drive_is_any_error() {
+    let frame = || -> Result<(), Box<dyn std::error::Error>> {
+        let mut car = car()?;
+        car.aim(&body().chassis())?.drive(2.0, &[], &[FLOOR; 4])?;
+        Ok(())
+    };
+    let said = frame().expect_err("a time step of two seconds").to_string();
+    assert!(said.starts_with("refused (10): dt 2, "), "{said}");
 }
 
 /// What a strict vehicle finds while it does this.
@@ -294,6 +352,65 @@ fn a_strict_vehicle_doubts_a_wheel_and_its_controls() {
     starts(one_control(Controls { steering, ..controls }), &said);
 }
 
+/// Each limit of docs/NUMBERS.md: at it nothing is said, and a little beyond it one thing.
+#[test]
+fn a_strict_vehicle_doubts_from_its_limits_on() {
+    type SetWheel = fn(&mut WheelSettings, f32);
+    let wheels: [(f32, SetWheel); 8] = [
+        (1000.0, |w, x| w.stiffness = x),
+        (100.0, |w, x| w.compression = x),
+        (100.0, |w, x| w.damping = x),
+        (1.0, |w, x| w.travel = x),
+        (3.0, |w, x| w.slip = x),
+        (5.0, |w, x| w.radius = x),
+        (1.1, |w, x| w.direction = Vector::new(0.0, -x, 0.0)),
+        (1.1, |w, x| w.axle = Vector::new(0.0, 0.0, x)),
+    ];
+    let count = |list: Result<Vec<String>, Refused>| list.expect("accepted").len();
+    for (limit, set) in wheels {
+        for (value, said) in [(limit, 0), (limit * 1.01, 1)] {
+            let mut settings = wheel();
+            set(&mut settings, value);
+            assert_eq!(count(one_wheel(settings)), said, "{settings:?}");
+        }
+    }
+    for (engine, brake, said) in
+        [(50_000.0, 0.0, 0), (50_500.0, 0.0, 1), (0.0, 2000.0, 0), (0.0, 2020.0, 1)]
+    {
+        let controls = Controls { engine, brake, steering: Steering::Angle(0.0) };
+        assert_eq!(count(one_control(controls)), said, "{controls:?}");
+    }
+    let chassis = body().chassis();
+    for (x, said) in [(10.0, 0), (10.1, 1)] {
+        let centre_of_mass = Vector::new(x, 0.0, 0.0);
+        assert_eq!(count(one_aim(Chassis { centre_of_mass, ..chassis })), said, "{x} m away");
+        let inverse_inertia = Inertia { yz: -x, ..chassis.inverse_inertia };
+        assert_eq!(count(one_aim(Chassis { inverse_inertia, ..chassis })), said, "inertia {x}");
+    }
+    for (inverse_mass, said) in [(1.0, 0), (1.01, 1)] {
+        let effective_inverse_masses = Vector::new(inverse_mass, inverse_mass, inverse_mass);
+        let light = Chassis { inverse_mass, effective_inverse_masses, ..chassis };
+        assert_eq!(count(one_aim(light)), said, "{inverse_mass}");
+    }
+}
+
+/// The whole numbers are the caller's: axes that no set-up takes are read as some axis, and nothing beyond the settings.
+#[test]
+fn doubts_take_any_whole_numbers() {
+    let settings = help::make_wheel(&help::Mount {
+        connection: [0.0; 3],
+        direction: [0.0, -1.0, 0.0],
+        axle: [0.0, 0.0, 1.0],
+        rest_length: 1.0,
+        radius: 1.0,
+    });
+    for number in [3, 1000, 1 << 28, u32::MAX] {
+        help::doubts_add_wheel(&[number, number, number, number], &settings);
+        help::doubts_aim(&[number; len::WHOLE], &[0.0; len::CHASSIS]);
+        help::doubts_set_controls(&[number; len::WHOLE], number, &[0.0; len::CONTROLS]);
+    }
+}
+
 /// A wheel rolls toward up × axle: x for the axle z where y is up, and so on round.
 #[test]
 fn a_strict_vehicle_doubts_a_wheel_that_does_not_roll_forward() {
@@ -333,6 +450,19 @@ fn a_strict_vehicle_doubts_a_normal_along_its_ray() {
     starts(on(0.75, UP), &[]);
     starts(on(0.75, DOWN), &["wheel 0: part of the normal along the ray 1, "]);
     starts(on(0.0, DOWN), &[]);
+    // Each wheel by its own ray, in the world: the second points sideways, and the chassis takes x to y, y to z and z to x.
+    let sideways = WheelSettings { direction: Vector::new(1.0, 0.0, 0.0), ..wheel() };
+    let turned = RigidBody { rotation: THIRD, ..body() }.chassis();
+    let hit_up = |normal: Vector| RayAnswer::HitUp { time: 0.5, normal, upward: DOWN, body: None };
+    let said = reported(|mut car| {
+        car.add_wheel(&wheel())?;
+        car.add_wheel(&sideways)?;
+        let answers = [hit_up(Vector::new(0.0, 0.0, 1.0)), hit_up(UP)];
+        Ok(car.aim(&turned)?.drive(0.1, &[], &answers).map(|_| ())?)
+    });
+    let of_normals: Vec<String> =
+        said.expect("accepted").into_iter().filter(|said| said.contains("normal along")).collect();
+    starts(Ok(of_normals), &["wheel 1: part of the normal along the ray 1, "]);
 }
 
 #[test]

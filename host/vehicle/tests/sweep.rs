@@ -547,6 +547,27 @@ fn the_rest(swept: &mut Swept) {
     stiff[16] = HANDED;
     let slippery = [Call::SetUp(1, 0), Call::Add(stiff.clone()), Call::Aim(light.clone())];
     swept.expect("a wild limit", &new.clone().after(&slippery), &ground, 7);
+    // Of two wheels the second: it is the one that is named.
+    let second = [
+        Call::SetUp(1, 0),
+        Call::Add(settings()),
+        Call::Add(stiff.clone()),
+        Call::Aim(light.clone()),
+    ];
+    let both = driving(|d| {
+        let hit = [0.0, 0.0, 1.0, 0.0, 0.0, 0.0, 0.0];
+        (d.kinds, d.named, d.rays, d.dt) = (vec![kind::HIT; 2], vec![0; 2], hit.repeat(2), 1.0);
+    });
+    let wild = swept.expect("a wild limit of two", &new.clone().after(&second), &both, 7);
+    assert_eq!(wild.map(|found| (found.wheel, found.field)), Some((Some(1), "grip limit")));
+    let place = len::CHASSIS + ROW + SETTINGS_IN_ROW + RADIUS;
+    let spoilt = with(&new, |lent| lent.table[place] = -1.0);
+    let out = swept.expect("a stored radius of two", &spoilt, &Call::Aim(chassis()), 10);
+    let (wheel, field) = (Some(1), "stored radius");
+    assert_eq!(
+        out.map(|found| (found.wheel, found.field, found.value)),
+        Some((wheel, field, -1.0))
+    );
     (stiff[16], stiff[14]) = (0.0, 8.0);
     let stretched = [Call::SetUp(1, 0), Call::Add(stiff), Call::Aim(light)];
     swept.expect("a wild force", &new.clone().after(&stretched), &ground, 8);
