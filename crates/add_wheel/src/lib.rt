@@ -1,4 +1,6 @@
 // Add a wheel.
+#![tactic(auto)]
+
 ghost use Rattle.std.specs.Prelude.{◌≡◌};
 ghost use Rattle.refusals.specs.After.{after};
 ghost use Rattle.add_wheel.specs.Add.{blank_wheel, new_wheel, refuse_add, add_wheel};

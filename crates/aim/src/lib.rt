@@ -1,4 +1,6 @@
 // Aim: the chassis kept, the wheels placed under it, and what the host casts.
+#![tactic(auto)]
+
 ghost use Rattle.std.specs.Prelude.{◌≡◌, ◌≤◌, length};
 ghost use Rattle.std.specs.Float.{binary32};
 ghost use Rattle.lists.specs.Refusal.{first_failed};
@@ -14,14 +16,14 @@ use vector::Vector;
 use wheel::Wheel;
 
 // Where a wheel's ray starts, and the ray.
-#[derive(Drop)]
+#[derive(Clone, Copy)]
 pub struct Sight {
     pub hard: Vector,
     pub ray: Vector,
 }
 
 // What an aim answers: its number, the signed speed, and a sight for each wheel; zeros for the others.
-#[derive(Drop)]
+#[derive(Clone, Copy)]
 pub struct Aimed {
     pub number: u32,
     pub speed: f32,

@@ -1,4 +1,6 @@
 // Sine and cosine of half a steering angle, on plain numbers: change request 2026-11. In whole numbers of grains of 2^-30, and then rounded to an f32.
+#![tactic(auto)]
+
 ghost use Rattle.std.specs.Prelude.{◌≡◌, ◌≤◌, if◌then◌else◌};
 ghost use Rattle.std.specs.Float.{binary32};
 ghost use Rattle.std.specs.Float.Ieee.{neg, lt};
@@ -6,7 +8,7 @@ ghost use Rattle.real.specs.Number.{zero, ratio};
 ghost use Rattle.angle.specs.Angle as of;
 ghost use Rattle.angle.specs.Angle.{half_of, grains_of, square_of, bracket, cosine_grains, sine_grains, sine_cosine_of};
 
-#[derive(Drop)]
+#[derive(Clone, Copy)]
 pub struct SineCosine {
     pub sine: f32,
     pub cosine: f32,

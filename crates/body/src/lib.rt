@@ -1,4 +1,6 @@
 // Rigid bodies by value: the chassis and the ground bodies, with the inverse inertia kept flat.
+#![tactic(auto)]
+
 ghost use Rattle.std.specs.Prelude.{◌≡◌};
 ghost use Rattle.std.specs.Float.{binary32};
 ghost use Rattle.body.specs.Body.{velocity_at_point, apply_impulse_at_point, impulse_denominator};
@@ -6,7 +8,7 @@ ghost use Rattle.body.specs.Body.{velocity_at_point, apply_impulse_at_point, imp
 use vector::{Inertia, Pose, Vector};
 
 // What both kinds of body have.
-#[derive(Drop)]
+#[derive(Clone, Copy)]
 pub struct Body {
     pub centre: Vector,
     pub linvel: Vector,
@@ -16,7 +18,7 @@ pub struct Body {
 }
 
 // The chassis: a body with its pose and three effective inverse masses. It is dynamic.
-#[derive(Drop)]
+#[derive(Clone, Copy)]
 pub struct Chassis {
     pub pose: Pose,
     pub body: Body,
@@ -24,7 +26,7 @@ pub struct Chassis {
 }
 
 // A body under a wheel.
-#[derive(Drop)]
+#[derive(Clone, Copy)]
 pub struct GroundBody {
     pub body: Body,
     pub dynamic: bool,

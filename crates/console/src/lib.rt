@@ -1,6 +1,8 @@
 // The scenario program between standard input and standard output. The kit's contracts tell neither which bytes arrive nor what was written. Those here
 // say that the program went as `session` defines it over some blocks, those that were read, and that only its own texts are handed to the write. A stream
 // of any length runs in the same memory.
+#![tactic(auto)]
+
 ghost use Rattle.std.specs.Prelude.{◌≤◌, ◌≡◌, length, take};
 ghost use Rattle.scenario.specs.Format.{format};
 ghost use Rattle.turns.specs.Car.{car};
@@ -18,7 +20,7 @@ use session::{Stands, Step};
 use table::layout::{SIZE, WHOLE};
 
 // Where the reading stands: how many bytes are in the window, whether the input has ended, and whether the program runs on.
-#[derive(Drop)]
+#[derive(Clone, Copy)]
 struct Input {
     filled: usize,
     last: bool,

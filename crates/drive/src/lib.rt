@@ -1,11 +1,13 @@
 // Drive: the vehicle by one step, with what the host's rays met. The aim before it is in crate `aim`.
+#![tactic(auto)]
+
 use vector::Vector;
 
 pub mod advance; // drive
 pub mod results; // its results as numbers
 
 // What a drive answers: its number, the chassis' new velocities, and whether it is to be woken.
-#[derive(Drop)]
+#[derive(Clone, Copy)]
 pub struct Driven {
     pub number: u32,
     pub linvel: Vector,

@@ -1,4 +1,6 @@
 // The tests of a drive that come before its step: refusals 1, 5, 6, 2, 12 and 10.
+#![tactic(auto)]
+
 ghost use Rattle.std.specs.Prelude.{◌≡◌, ◌*◌, ◌≤◌, length};
 ghost use Rattle.std.specs.Float.{binary32};
 ghost use Rattle.lists.specs.Refusal.{first_failed};

@@ -2,6 +2,8 @@
 // numbers and flat lists, set controls in two forms; a list is a pointer and a length. Each is total on every length and every number, answers the refusal number of its
 // call, and refuses with 1, before all else, a list of settings, controls, chassis or results of the wrong length. Results are written only
 // where the answer is 0.
+#![tactic(auto)]
+
 ghost use Rattle.std.specs.Prelude.{◌≡◌, true, length};
 ghost use Rattle.std.specs.Float.{binary32};
 ghost use Rattle.real.specs.Root.{root_of};

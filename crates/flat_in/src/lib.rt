@@ -1,4 +1,6 @@
 // The lists of a drive that a host hands in: whether they fit together, and what they say.
+#![tactic(auto)]
+
 ghost use Rattle.std.specs.Prelude.{◌≡◌, true, false, ◌+◌, ◌*◌, ◌<◌, ◌≤◌, length, replicate};
 ghost use Rattle.lists.specs.Part.{paste};
 ghost use Rattle.lists.specs.All.{all};

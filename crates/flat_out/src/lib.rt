@@ -1,4 +1,6 @@
 // The results of a call, written over a lent list where the call is accepted.
+#![tactic(auto)]
+
 ghost use Rattle.std.specs.Prelude.{◌≡◌, ◌+◌, ◌*◌, ◌<◌, length};
 ghost use Rattle.lists.specs.Part.{paste};
 ghost use Rattle.table.specs.Layout as lent;

@@ -1,4 +1,6 @@
 // The lists of a drive, read from its words.
+#![tactic(auto)]
+
 ghost use Rattle.std.specs.Prelude.{◌≡◌, length, replicate, ◌+◌, ◌*◌, ◌<◌, ◌≤◌};
 ghost use Rattle.lists.specs.Part.{paste};
 ghost use Rattle.wheel.specs.declared.RayAnswer.TheVariants.{Nothing};

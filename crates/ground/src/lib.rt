@@ -1,4 +1,6 @@
 // What a drive's ray answers say: which wheels are grounded, how many, and on what.
+#![tactic(auto)]
+
 ghost use Rattle.std.specs.Prelude.{◌≡◌, ◌≤◌, length};
 ghost use Rattle.table.specs.Layout as at;
 ghost use Rattle.wheel.specs.Ray.{answer_at, named_of};

@@ -1,4 +1,6 @@
 // Document 01, "Scenario program": the lines that are printed. Each function puts bytes into a lent buffer and answers the place behind them.
+#![tactic(auto)]
+
 pub mod layout; // the numbers of a line
 
 ghost use Rattle.std.specs.Prelude.{[], ◌∷◌, ◌≡◌, ◌+◌, ◌*◌, ◌≤◌, ◌<◌, length};

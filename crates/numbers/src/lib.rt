@@ -1,10 +1,12 @@
 // Document 01, "Scenario program": one number.
+#![tactic(auto)]
+
 ghost use Rattle.std.specs.Prelude.{◌≤◌, ◌≡◌};
 ghost use Rattle.numbers.specs.Layout as layout;
 ghost use Rattle.numbers.specs.Number.{bad_group, read_number};
 
 // What stands at the start of some bytes: a number and how many bytes it takes; too few bytes; or no number.
-#[derive(Drop)]
+#[derive(Clone, Copy)]
 pub enum Number {
     Value(u32, usize),
     Short,

@@ -1,4 +1,6 @@
 // The call of a scenario code: its words in, its answer and its results out.
+#![tactic(auto)]
+
 mod calls; // controls and read
 mod frames; // aim and drive
 
@@ -17,7 +19,7 @@ use replies::Extent;
 use scenario::decode;
 
 // What a code is answered: its number, and how many results it has.
-#[derive(Drop)]
+#[derive(Clone, Copy)]
 pub struct Answer {
     pub number: u32,
     pub count: usize,

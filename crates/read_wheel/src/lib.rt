@@ -1,4 +1,6 @@
 // Read a wheel.
+#![tactic(auto)]
+
 ghost use Rattle.std.specs.Prelude.{◌≡◌};
 ghost use Rattle.std.specs.Float.{binary32};
 ghost use Rattle.refusals.specs.After.{after};
@@ -11,7 +13,7 @@ use wheel::Wheel;
 
 // What a read answers: its number, the fifteen numbers of a wheel, its settled centre, where the tyre is drawn, and whether rule 7's axis and
 // forward direction fell back to zero in the drive. `centre` is rule 1's, with the length from before the cast.
-#[derive(Drop)]
+#[derive(Clone, Copy)]
 pub struct Reading {
     pub number: u32,
     pub centre: Vector,

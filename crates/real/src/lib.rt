@@ -1,4 +1,6 @@
 // One f32 at a time: the square root (`root::root`), the inverse, Rust's clamp, bounds, and a yes or no as a number.
+#![tactic(auto)]
+
 pub mod root;
 
 ghost use Rattle.std.specs.Prelude.{◌≡◌};

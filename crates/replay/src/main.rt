@@ -1,4 +1,6 @@
 // Stored scenarios, one after another: `stdin` has them, `stdout` the oracle's lines for them. tools/replay-sample made both.
+#![tactic(auto)]
+
 ghost use Rattle.std.specs.Prelude.{◌≤◌, take};
 ghost use Rattle.session.specs.Layout as layout;
 ghost use Rattle.replay.specs.Scenarios.{Plays, Begins};

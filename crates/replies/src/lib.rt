@@ -1,4 +1,6 @@
 // The results of an accepted call, put as words over the lent ones, in the order of docs/STREAM.md. Each function answers how many they are.
+#![tactic(auto)]
+
 ghost use Rattle.std.specs.Prelude.{◌≡◌, ◌+◌, ◌≤◌, length, take};
 ghost use Rattle.lists.specs.Pick.{pick};
 ghost use Rattle.lists.specs.Part.{paste};
@@ -20,7 +22,7 @@ use scenario::results;
 use table::layout::WHEELS;
 
 // What of a read a code prints: document 01's fifteen numbers; with the settled centre; and all, with the two answers on the directions.
-#[derive(Drop)]
+#[derive(Clone, Copy)]
 pub enum Extent {
     Document,
     Settled,

@@ -1,4 +1,6 @@
 // Document 01, "Scenario program": a stream of codes from standard input, and a line for each to standard output.
+#![tactic(auto)]
+
 use table::layout::{SIZE, WHOLE};
 
 fn main() {

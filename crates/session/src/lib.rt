@@ -1,11 +1,13 @@
 // Document 01, "Scenario program": the program on slices. The bytes of the stream come in windows of any size, and the text goes out in blocks.
+#![tactic(auto)]
+
 pub mod layout; // the numbers of the program
 pub mod start; // how it starts
 pub mod runs; // the codes of a window
 pub mod window; // a window that is kept for the next bytes
 
 // How a run of codes stands: the program has ended; more bytes have to come; or the text has to be written out.
-#[derive(Drop)]
+#[derive(Clone, Copy)]
 pub enum Stands {
     Ended,
     More,
@@ -13,7 +15,7 @@ pub enum Stands {
 }
 
 // A run of codes: how many bytes are done with, the place behind its text, and how it stands.
-#[derive(Drop)]
+#[derive(Clone, Copy)]
 pub struct Run {
     pub taken: usize,
     pub at: usize,
@@ -21,7 +23,7 @@ pub struct Run {
 }
 
 // A step of the program: how many bytes of the window are left, at its start; the place behind the text; and how it stands.
-#[derive(Drop)]
+#[derive(Clone, Copy)]
 pub struct Step {
     pub filled: usize,
     pub at: usize,

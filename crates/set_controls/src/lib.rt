@@ -1,4 +1,6 @@
 // Set controls.
+#![tactic(auto)]
+
 ghost use Rattle.std.specs.Prelude.{◌≡◌};
 ghost use Rattle.std.specs.Float.{binary32};
 ghost use Rattle.refusals.specs.After.{after};

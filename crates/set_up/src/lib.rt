@@ -3,6 +3,8 @@
 //
 // The life of a table: set_up once; add_wheel for each wheel; then for each frame set_controls as needed, aim, cast the rays that the aim
 // answered, drive with what they met, and read_wheel. The table is `layout::SIZE` numbers; beside it stand `layout::WHOLE` whole numbers.
+#![tactic(auto)]
+
 ghost use Rattle.std.specs.Prelude.{◌≡◌};
 ghost use Rattle.refusals.specs.After.{after};
 ghost use Rattle.set_up.specs.SetUp.{refuse_set_up, set_up};

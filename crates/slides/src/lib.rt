@@ -1,4 +1,6 @@
 // Rule 8's rescale over a lent slice of small records (forward, side, skid). The records of a table's wheels are gathered, lent, and written back into their rows.
+#![tactic(auto)]
+
 ghost use Rattle.std.specs.Prelude.{◌≡◌, ◌≤◌, map, length};
 ghost use Rattle.std.specs.Float.{binary32};
 ghost use Rattle.tyre.specs.Grip.{rescaled_of};

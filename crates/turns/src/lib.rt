@@ -1,4 +1,6 @@
 // One code: it is read whole, its call is made, and its line is put.
+#![tactic(auto)]
+
 ghost use Rattle.std.specs.Prelude.{◌+◌, ◌≤◌, [], ◌≡◌, length};
 ghost use Rattle.lists.specs.Puts.{Puts};
 ghost use Rattle.table.specs.Layout as places;
@@ -17,7 +19,7 @@ use lines::layout::RESULTS;
 use stream::Code;
 
 // What follows a code: another one, so many bytes on; nothing; or more bytes have to come before it can be told.
-#[derive(Drop)]
+#[derive(Clone, Copy)]
 pub enum Next {
     On(usize),
     Ended,
@@ -25,7 +27,7 @@ pub enum Next {
 }
 
 // A code that was taken: the place behind its text, and what follows it.
-#[derive(Drop)]
+#[derive(Clone, Copy)]
 pub struct Turn {
     pub at: usize,
     pub next: Next,

@@ -1,4 +1,6 @@
 // The passes of a drive, one after another, on a table that is worked on: document 01, "A step, in the source's order".
+#![tactic(auto)]
+
 ghost use Rattle.std.specs.Prelude.{◌≡◌, ◌≤◌, length};
 ghost use Rattle.std.specs.Float.{binary32};
 ghost use Rattle.table.specs.Layout as at;
@@ -12,7 +14,7 @@ use table::layout::WHEELS;
 use wheel::{Directions, RayAnswer};
 
 // What a step has as far as the demands: the chassis after the springs, and the directions of each wheel.
-#[derive(Drop)]
+#[derive(Clone, Copy)]
 pub struct Demanded {
     pub chassis: Chassis,
     pub directions: [Directions; WHEELS],

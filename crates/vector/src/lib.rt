@@ -1,10 +1,12 @@
 // Vectors, rotations, poses and inverse inertia over f32: document 01's "Vector arithmetic", operation for operation.
+#![tactic(auto)]
+
 ghost use Rattle.std.specs.Prelude.{◌≡◌, cond, eqb};
 ghost use Rattle.std.specs.Float.{binary32};
 ghost use Rattle.real.specs.Number.{zero, one};
 ghost use Rattle.vector.specs.Arithmetic.{zero_v, add_v, sub_v, neg_v, scale_v, parts_v, dot_v, cross_v, length_v, normalize_or_zero, rotate_v, transform_point, rows_of, row_dot, rows_dot, inertia_dot, ith};
 
-#[derive(Drop)]
+#[derive(Clone, Copy)]
 pub struct Vector {
     pub x: f32,
     pub y: f32,
@@ -12,27 +14,27 @@ pub struct Vector {
 }
 
 // What normalising gives: the vector at length 1, or zero where it fell back to that.
-#[derive(Drop)]
+#[derive(Clone, Copy)]
 pub struct Normalized {
     pub vector: Vector,
     pub fellback: bool,
 }
 
 // A rotation (b, w).
-#[derive(Drop)]
+#[derive(Clone, Copy)]
 pub struct Rotation {
     pub b: Vector,
     pub w: f32,
 }
 
-#[derive(Drop)]
+#[derive(Clone, Copy)]
 pub struct Pose {
     pub translation: Vector,
     pub rotation: Rotation,
 }
 
 // The six numbers of a symmetric three by three array.
-#[derive(Drop)]
+#[derive(Clone, Copy)]
 pub struct Inertia {
     pub xx: f32,
     pub xy: f32,

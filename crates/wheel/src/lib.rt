@@ -1,5 +1,7 @@
 // One wheel, on values, and its ray: document 01's rules 1 and 3 to 5 for a single wheel; those of a wheel on the ground are in crate `road`. A row of the lent
 // table is read into a `Wheel`, and written from one.
+#![tactic(auto)]
+
 use body::GroundBody;
 use tyre::{Approach, WheelTuning};
 use vector::{Normalized, Rotation, Vector};
@@ -8,7 +10,7 @@ pub mod ray; // rules 1 and 3 to 5: where the wheel is, and what its ray met
 pub mod steer; // change request 2026-11: a steering as it is kept, and the rotation that it makes
 
 // What was handed in when the wheel was added, in the order of docs/STREAM.md. `roll` is the source's roll_influence.
-#[derive(Drop)]
+#[derive(Clone, Copy)]
 pub struct Settings {
     pub connection: Vector,
     pub direction: Vector,
@@ -24,14 +26,14 @@ pub const ROLL_INFLUENCE: f32 = 0.1;
 
 // How a wheel is steered: by a rotation in world space, or by an angle from -2 to 2, in radians, about minus its world direction (change
 // request 2026-11).
-#[derive(Drop)]
+#[derive(Clone, Copy)]
 pub enum Steering {
     ByRotation(Rotation),
     ByAngle(f32),
 }
 
 // What is set before a frame.
-#[derive(Drop)]
+#[derive(Clone, Copy)]
 pub struct Controls {
     pub engine: f32,
     pub brake: f32,
@@ -39,7 +41,7 @@ pub struct Controls {
 }
 
 // A steering as the row keeps it: a kind of 0 says that the rotation was given last, any other number that the angle was.
-#[derive(Drop)]
+#[derive(Clone, Copy)]
 pub struct KeptSteering {
     pub rotation: Rotation,
     pub angle: f32,
@@ -47,7 +49,7 @@ pub struct KeptSteering {
 }
 
 // The controls as the row keeps them.
-#[derive(Drop)]
+#[derive(Clone, Copy)]
 pub struct KeptControls {
     pub engine: f32,
     pub brake: f32,
@@ -55,7 +57,7 @@ pub struct KeptControls {
 }
 
 // The source's `RayCastInfo`, less contact and ground object, which are not kept.
-#[derive(Drop)]
+#[derive(Clone, Copy)]
 pub struct RayCastInfo {
     pub normal: Vector,
     pub point: Vector,
@@ -64,7 +66,7 @@ pub struct RayCastInfo {
 }
 
 // Where the wheel is: its centre, and the world's direction and axle.
-#[derive(Drop)]
+#[derive(Clone, Copy)]
 pub struct Place {
     pub centre: Vector,
     pub direction: Vector,
@@ -72,7 +74,7 @@ pub struct Place {
 }
 
 // The spin is the source's delta_rotation.
-#[derive(Drop)]
+#[derive(Clone, Copy)]
 pub struct Motion {
     pub rotation: f32,
     pub spin: f32,
@@ -84,13 +86,13 @@ pub struct Motion {
 
 // Change request 2026-05: whether rule 7's axis and forward direction fell back to zero in the drive, as the row keeps it: 1 or 0. Any
 // number but 0 is a yes.
-#[derive(Drop)]
+#[derive(Clone, Copy)]
 pub struct Fallbacks {
     pub axis: f32,
     pub forward: f32,
 }
 
-#[derive(Drop)]
+#[derive(Clone, Copy)]
 pub struct Wheel {
     pub info: RayCastInfo,
     pub place: Place,
@@ -103,7 +105,7 @@ pub struct Wheel {
 
 // What a wheel's ray met: nothing; a hit with its time, its normal and the ground body's number; a hit that also has the normal of the
 // upward cast. The number 0 names no body, n names body n - 1 of the drive's list.
-#[derive(Drop)]
+#[derive(Clone, Copy)]
 pub enum RayAnswer {
     Nothing,
     Hit(f32, Vector, u32),
@@ -111,14 +113,14 @@ pub enum RayAnswer {
 }
 
 // The body under a wheel, by value.
-#[derive(Drop)]
+#[derive(Clone, Copy)]
 pub enum Ground {
     Nothing,
     On(GroundBody),
 }
 
 // A wheel's axis on the contact plane, and its rolling direction there, each with whether it fell back to zero.
-#[derive(Drop)]
+#[derive(Clone, Copy)]
 pub struct Directions {
     pub axis: Normalized,
     pub forward: Normalized,

@@ -2,12 +2,8 @@
 use mathlib.Core.Path.{refl}
 use lib.Ieee.{of_bits}
 use Rattle.real.specs.Scalar.{reads_yes}
-use Rattle.real.proofs.reads_yes.Statement.{statement}
-use Rattle.real.proofs.reads_yes.Tie as tie
+use Rattle.real.proofs.reads_yes.Goals as goal
 
-returns : tie.Need-returns
+pub returns : goal.returns
 unfolding reads_yes of_bits
 returns c = refl
-
-pub reads_yes_spec : {M : Type 1} → statement M
-reads_yes_spec = tie.close (tie.spec returns)
