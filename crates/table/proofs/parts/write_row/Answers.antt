@@ -1,0 +1,15 @@
+-- `table::parts::write_row` meets its contract: each part is written, so the row is that of the wheel of all parts. Assumes nothing.
+use borrow.Author.Rules.{rules}
+use Rattle.wheel.specs.Parts.{with_place, with_settings, with_controls, with_approach, with_motion, with_fallbacks}
+use Rattle.table.proofs.Writes.{written_after}
+use Rattle.table.proofs.parts.write_row.Goals as goal
+
+pub returns : goal.returns
+returns c =
+    let w = c.args.w in
+    written_after (λ v. with_fallbacks v w.fallbacks) _ _ _ c.write_fallbacks.ensures
+    (written_after (λ v. with_motion v w.motion) _ _ _ c.write_motion.ensures
+    (written_after (λ v. with_approach v w.approach) _ _ _ c.write_approach.ensures
+    (written_after (λ v. with_controls v w.controls) _ _ _ c.write_controls.ensures
+    (written_after (λ v. with_settings v w.settings) _ _ _ c.write_settings.ensures
+    (written_after (λ v. with_place v w.place) _ _ _ c.write_place.ensures c.write_info.ensures)))))
