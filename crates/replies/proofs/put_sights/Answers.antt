@@ -26,7 +26,7 @@ loop-i-preserved c =
     let same = c.loop-i.invariant.2.same in (
       omega arith,
       omega arith,
-      part_put _ _ c.loop-i.invariant.2 (sights_more format a.t3 a.n c.loop-i.i _ (omega arith) (omega arith)) c.put_sight.ensures (omega arith),
+      part_put _ _ c.loop-i.invariant.2 (sights_more format a.sights a.n c.loop-i.i _ (omega arith) (omega arith)) c.put_sight.ensures (omega arith),
     )
 
 pub shape_of-words : goal.shape_of-words
@@ -35,4 +35,4 @@ shape_of-words c = c.loop-i.invariant.2.same
 pub returns : goal.returns
 returns c =
     let a = c.args in
-    all_put c.loop-i.invariant.2 (sights_end format a.t3 a.n c.loop-i.i (omega arith) (omega arith))
+    all_put c.loop-i.invariant.2 (sights_end format a.sights a.n c.loop-i.i (omega arith) (omega arith))
