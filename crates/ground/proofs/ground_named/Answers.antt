@@ -14,6 +14,11 @@ use Rattle.table.specs.Rows.{body_at}
 use Rattle.ground.specs.Frame.{ground_named}
 use Rattle.ground.proofs.ground_named.Goals as goal
 
+module _ (bodies : List Float) (dynamic : List Bool) (named : ℕ) where
+  none_named : named ≡ 0 → Nothing ≡ ground_named bodies dynamic named
+  unfolding ground_named pick
+  none_named e = rw (eq-eqb named 0 e)
+
   body_named : (b : Body) → (named ≡ 0 → ⊥) → b ≡ body_at bodies (named - 1) → On (record { body = b; dynamic = get_or dynamic (named - 1) false }) ≡ ground_named bodies dynamic named
   unfolding ground_named pick
   body_named b ne e = rw (ne_eqb named 0 ne, e)

@@ -1,0 +1,17 @@
+-- `frame_words::decode_bodies` meets its contract: the first k numbers are in place. Assumes nothing.
+use borrow.Author.Rules.{rules}
+use native.Mathlib.Omega.{arith}
+use Prim.Native.Nat.{◌*◌, ◌-◌, ◌≤◌}
+use Rattle.lists.specs.Counted.{listed}
+use Rattle.lists.proofs.Turns.{listed_start, listed_more, listed_end}
+use Rattle.lists.proofs.Filling.{Filling, fill_none, fill_more, fill_all}
+use Rattle.table.specs.Layout as table
+use Rattle.scenario.specs.Format.{format}
+use Rattle.frame_words.specs.Frame.{body_number_from, bodies_from}
+use Rattle.frame_words.proofs.decode_bodies.Given as goal
+
+abbrev pub invariant-loop-k : goal.invariant-loop-k
+invariant-loop-k l = (l.k ≤ l.nb * table.BODY) × Filling l.initial.bodies l.bodies l.k (listed (body_number_from format l.words) (l.nb * table.BODY - l.k) l.k) (bodies_from format l.words l.nb)
+
+abbrev pub decreases-loop-k : goal.decreases-loop-k
+decreases-loop-k l = l.nb * table.BODY - l.k

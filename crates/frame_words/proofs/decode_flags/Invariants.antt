@@ -1,0 +1,15 @@
+-- `frame_words::decode_flags` meets its contract: the first i flags are in place. Assumes nothing.
+use borrow.Author.Rules.{rules}
+use native.Mathlib.Omega.{arith}
+use Prim.Native.Nat.{◌-◌, ◌≤◌}
+use Rattle.lists.specs.Counted.{listed}
+use Rattle.lists.proofs.Turns.{listed_start, listed_more, listed_end}
+use Rattle.lists.proofs.Filling.{Filling, fill_none, fill_more, fill_all}
+use Rattle.frame_words.specs.Frame.{flag_from, flags_from}
+use Rattle.frame_words.proofs.decode_flags.Given as goal
+
+abbrev pub invariant-loop-i : goal.invariant-loop-i
+invariant-loop-i l = (l.i ≤ l.nb) × Filling l.initial.flags l.flags l.i (listed (flag_from l.words) (l.nb - l.i) l.i) (flags_from l.words l.nb)
+
+abbrev pub decreases-loop-i : goal.decreases-loop-i
+decreases-loop-i l = l.nb - l.i

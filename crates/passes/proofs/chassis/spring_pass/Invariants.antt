@@ -1,0 +1,15 @@
+-- `passes::chassis::spring_pass` meets its contract: a turn for each wheel. Assumes nothing.
+use borrow.Author.Rules.{rules}
+use Prim.Native.Nat.{◌-◌}
+use native.Mathlib.Omega.{arith}
+use lib.Ieee.{binary32}
+use Rattle.passes.specs.Passes.{stored, spring_at, springs}
+use Rattle.lists.proofs.Turns.{turning_start}
+use Rattle.passes.proofs.Laws.{Moving, moving_again, moving_done}
+use Rattle.passes.proofs.chassis.spring_pass.Given as goal
+
+abbrev pub invariant-loop-i : goal.invariant-loop-i
+invariant-loop-i l = Moving (spring_at binary32 stored l.dt) l.n l.table l.initial.c l.i l.c
+
+abbrev pub decreases-loop-i : goal.decreases-loop-i
+decreases-loop-i l = l.n - l.i

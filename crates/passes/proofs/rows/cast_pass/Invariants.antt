@@ -1,0 +1,15 @@
+-- `passes::rows::cast_pass` meets its contract: a turn for each wheel. Assumes nothing.
+use borrow.Author.Rules.{rules}
+use Prim.Native.Nat.{◌-◌}
+use native.Mathlib.Omega.{arith}
+use lib.Ieee.{binary32}
+use Rattle.wheel.specs.Ray.{answer_at}
+use Rattle.passes.specs.Passes.{stored, changed, cast_at, casts}
+use Rattle.passes.proofs.Laws.{Passing, passing_start, passing_again, passing_done}
+use Rattle.passes.proofs.rows.cast_pass.Given as goal
+
+abbrev pub invariant-loop-i : goal.invariant-loop-i
+invariant-loop-i l = Passing (cast_at binary32 stored l.chassis (answer_at l.answers)) l.n l.initial.table l.i l.table
+
+abbrev pub decreases-loop-i : goal.decreases-loop-i
+decreases-loop-i l = l.n - l.i

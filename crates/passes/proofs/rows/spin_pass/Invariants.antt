@@ -1,0 +1,16 @@
+-- `passes::rows::spin_pass` meets its contract: a turn for each wheel. Assumes nothing.
+use borrow.Author.Rules.{rules}
+use Prim.Native.Nat.{◌-◌}
+use native.Mathlib.Omega.{arith}
+use lib.Ieee.{binary32}
+use Rattle.wheel.specs.Ray.{answer_at}
+use Rattle.ground.specs.Frame.{grounded_at}
+use Rattle.passes.specs.Passes.{changed, spin_at, spins}
+use Rattle.passes.proofs.Laws.{Passing, passing_start, passing_again, passing_done}
+use Rattle.passes.proofs.rows.spin_pass.Given as goal
+
+abbrev pub invariant-loop-i : goal.invariant-loop-i
+invariant-loop-i l = Passing (spin_at binary32 l.dt l.chassis (answer_at l.answers)) l.n l.initial.table l.i l.table
+
+abbrev pub decreases-loop-i : goal.decreases-loop-i
+decreases-loop-i l = l.n - l.i

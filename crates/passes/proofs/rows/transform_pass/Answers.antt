@@ -1,0 +1,19 @@
+-- `passes::rows::transform_pass` meets its contract: a turn for each wheel. Assumes nothing.
+use borrow.Author.Rules.{rules}
+use Prim.Native.Nat.{◌-◌}
+use native.Mathlib.Omega.{arith}
+use lib.Ieee.{binary32}
+use Rattle.passes.specs.Passes.{transform_at, transforms}
+use Rattle.passes.proofs.Laws.{Passing, passing_start, passing_again, passing_done}
+use Rattle.passes.proofs.rows.transform_pass.Goals as goal
+
+pub loop-i-init : goal.loop-i-init
+loop-i-init c = passing_start _ _ _ (search rules)
+
+pub loop-i-preserved : goal.loop-i-preserved
+loop-i-preserved c =
+    passing_again _ _ _ _ _ _ c.loop-i.invariant (omega arith) (omega arith) c.transform_wheel.ensures
+
+pub returns : goal.returns
+unfolding transforms
+returns c = passing_done _ _ _ _ _ c.loop-i.invariant (omega arith)
