@@ -42,26 +42,26 @@ wheel_limit f tuning dt w = limit_of f w.motion.force dt tuning.slip
 
 -- Rule 7. The two demands of a grounded wheel that has this axis and this forward direction.
 unfoldable pub side_demand : Format → WheelTuning → Body → Ground → Vector → Wheel → Float
-side_demand f tuning chassis ground axis w =
-    let counted = dynamic_ground ground in
+side_demand f tuning chassis surface axis w =
+    let counted = dynamic_ground surface in
     side_response f (dot_v f axis (relative_velocity f chassis counted w.info.point)) (jacobian_diagonal f chassis counted w.info.point axis) tuning.sideways
 
 unfoldable pub rolling_demand : Format → Float → Body → Ground → ℕ → Vector → Wheel → Float
-rolling_demand f dt chassis ground grounded forward w =
+rolling_demand f dt chassis surface grounded forward w =
     rolling_of f dt w.controls.engine w.controls.brake
-    (rolling_response f (dot_v f forward (relative_velocity f chassis ground w.info.point)) (denominators_of f chassis ground w.info.point forward) grounded)
+    (rolling_response f (dot_v f forward (relative_velocity f chassis surface w.info.point)) (denominators_of f chassis surface w.info.point forward) grounded)
 
 -- Rules 7 and 8. Both demands of the wheel with its skid, before the rescale. Airborne: impulses 0, skid 1.
 unfoldable pub friction_of : Format → WheelTuning → Float → Body → Bool → Ground → ℕ → Directions → Wheel → Friction
-friction_of f tuning dt chassis contact ground grounded d w =
-    cond contact (with_skid f (rolling_demand f dt chassis ground grounded d.forward.vector w) (side_demand f tuning chassis ground d.axis.vector w) (wheel_limit f tuning dt w)) airborne
+friction_of f tuning dt chassis contact surface grounded d w =
+    cond contact (with_skid f (rolling_demand f dt chassis surface grounded d.forward.vector w) (side_demand f tuning chassis surface d.axis.vector w) (wheel_limit f tuning dt w)) airborne
 
 -- Demand 3's last sentence: the two impulses and the skid of one wheel in a drive, from the kept chassis, the chassis after the springs, the time step, its ground,
 -- the number of grounded wheels, its own hit, its own stored row and the tuning that counts.
 unfoldable pub impulses_of : Format → WheelTuning → Body → Body → Float → Ground → ℕ → RayAnswer → Wheel → Friction
-impulses_of f tuning kept sprung dt ground grounded answer w =
+impulses_of f tuning kept sprung dt surface grounded answer w =
     let hung = suspended_of f tuning kept.invmass (is_grounded answer) (ray_cast f tuning kept answer w) in
-    rescaled_of f (friction_of f tuning dt sprung (is_grounded answer) ground grounded (directions_of f hung) hung)
+    rescaled_of f (friction_of f tuning dt sprung (is_grounded answer) surface grounded (directions_of f hung) hung)
 
 -- Rule 9. The side impulse's point: the contact point less up × (up·(point − centre of mass) × (1 − roll influence)).
 unfoldable pub side_point : Format → Float → Vector → Vector → Vector → Vector

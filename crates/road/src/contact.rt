@@ -49,10 +49,10 @@ pub fn fallbacks_of(contact: bool, d: Directions) -> Fallbacks
 }
 
 // The ground as the side demand counts it: a body that is not dynamic is none.
-pub fn dynamic_ground(ground: Ground) -> Ground
-    ensures { result ≡ dynamic_ground ground }
+pub fn dynamic_ground(surface: Ground) -> Ground
+    ensures { result ≡ dynamic_ground surface }
 {
-    match ground {
+    match surface {
         Ground::Nothing => Ground::Nothing,
         Ground::On(b) => if b.dynamic {
             Ground::On(b)
@@ -63,11 +63,11 @@ pub fn dynamic_ground(ground: Ground) -> Ground
 }
 
 // The chassis' velocity at p less the ground's.
-pub fn relative_velocity(chassis: Body, ground: Ground, p: Vector) -> Vector
-    ensures { result ≡ relative_velocity binary32 chassis ground p }
+pub fn relative_velocity(chassis: Body, surface: Ground, p: Vector) -> Vector
+    ensures { result ≡ relative_velocity binary32 chassis surface p }
 {
     let v = body::velocity_at_point(chassis, p);
-    match ground {
+    match surface {
         Ground::Nothing => v,
         Ground::On(b) => vector::sub(v, body::velocity_at_point(b.body, p)),
     }
@@ -82,10 +82,10 @@ fn swing_of(b: Body, p: Vector, axis: Vector) -> f32
 }
 
 // The source's jac_diag_ab: of resolve_single_unilateral, and of resolve_single_bilateral where a body counts.
-pub fn jacobian_diagonal(chassis: Body, ground: Ground, p: Vector, axis: Vector) -> f32
-    ensures { result ≡ jacobian_diagonal binary32 chassis ground p axis }
+pub fn jacobian_diagonal(chassis: Body, surface: Ground, p: Vector, axis: Vector) -> f32
+    ensures { result ≡ jacobian_diagonal binary32 chassis surface p axis }
 {
-    match ground {
+    match surface {
         Ground::Nothing => chassis.invmass + swing_of(chassis, p, axis),
         Ground::On(b) => {
             let under = b.body;
@@ -95,11 +95,11 @@ pub fn jacobian_diagonal(chassis: Body, ground: Ground, p: Vector, axis: Vector)
 }
 
 // The sum of the bodies' denominators, along n at p.
-pub fn denominators_of(chassis: Body, ground: Ground, p: Vector, n: Vector) -> f32
-    ensures { result ≡ denominators_of binary32 chassis ground p n }
+pub fn denominators_of(chassis: Body, surface: Ground, p: Vector, n: Vector) -> f32
+    ensures { result ≡ denominators_of binary32 chassis surface p n }
 {
     let own = body::impulse_denominator(chassis, p, n);
-    match ground {
+    match surface {
         Ground::Nothing => own,
         Ground::On(b) => own + body::impulse_denominator(b.body, p, n),
     }

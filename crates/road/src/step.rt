@@ -46,11 +46,11 @@ pub fn wheel_limit(tuning: WheelTuning, dt: f32, w: Wheel) -> f32
 
 // Rule 7: the side demand of a grounded wheel with this axis: the source's resolve_single_bilateral and resolve_single_unilateral in one, times
 // the side stiffness.
-fn side_demand(tuning: WheelTuning, chassis: Body, ground: Ground, axis: Vector, w: Wheel) -> f32
-    ensures { result ≡ side_demand binary32 tuning chassis ground axis w }
+fn side_demand(tuning: WheelTuning, chassis: Body, surface: Ground, axis: Vector, w: Wheel) -> f32
+    ensures { result ≡ side_demand binary32 tuning chassis surface axis w }
 {
     let p = w.info.point;
-    let counted = contact::dynamic_ground(ground);
+    let counted = contact::dynamic_ground(surface);
     let speed = vector::dot(axis, contact::relative_velocity(chassis, counted, p));
     let sum = contact::jacobian_diagonal(chassis, counted, p, axis);
     demand::side_response(speed, sum, tuning.sideways)
@@ -60,16 +60,16 @@ fn side_demand(tuning: WheelTuning, chassis: Body, ground: Ground, axis: Vector,
 fn rolling_demand(
     dt: f32,
     chassis: Body,
-    ground: Ground,
+    surface: Ground,
     grounded: u8,
     forward: Vector,
     w: Wheel,
 ) -> f32
-    ensures { result ≡ rolling_demand binary32 dt chassis ground grounded forward w }
+    ensures { result ≡ rolling_demand binary32 dt chassis surface grounded forward w }
 {
     let p = w.info.point;
-    let speed = vector::dot(forward, contact::relative_velocity(chassis, ground, p));
-    let sum = contact::denominators_of(chassis, ground, p, forward);
+    let speed = vector::dot(forward, contact::relative_velocity(chassis, surface, p));
+    let sum = contact::denominators_of(chassis, surface, p, forward);
     let uncut = demand::rolling_response(speed, sum, grounded);
     demand::rolling_of(dt, w.controls.engine, w.controls.brake, uncut)
 }
@@ -80,16 +80,16 @@ pub fn friction_of(
     dt: f32,
     chassis: Body,
     contact: bool,
-    ground: Ground,
+    surface: Ground,
     grounded: u8,
     d: Directions,
     w: Wheel,
 ) -> Friction
-    ensures { result ≡ friction_of binary32 tuning dt chassis contact ground grounded d w }
+    ensures { result ≡ friction_of binary32 tuning dt chassis contact surface grounded d w }
 {
     if contact {
-        let forward = rolling_demand(dt, chassis, ground, grounded, d.forward.vector, w);
-        let side = side_demand(tuning, chassis, ground, d.axis.vector, w);
+        let forward = rolling_demand(dt, chassis, surface, grounded, d.forward.vector, w);
+        let side = side_demand(tuning, chassis, surface, d.axis.vector, w);
         grip::with_skid(forward, side, wheel_limit(tuning, dt, w))
     } else {
         grip::airborne()

@@ -1,4 +1,3 @@
 -- The laws that proofs over the records cite.
 pub mod Each
-pub mod Field
 pub mod Gathers

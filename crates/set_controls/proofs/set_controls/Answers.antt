@@ -7,28 +7,23 @@ use Rattle.lists.specs.Pick.{pick}
 use Rattle.refusals.proofs.Settled.{settled_refused, settled_done}
 use Rattle.set_controls.specs.Controls.{set_controls, unaimed}
 use Rattle.set_controls.proofs.Accepted.{ControlsTested, set_controls_says}
-use Rattle.set_controls.proofs.set_controls.Tie as tie
 use Rattle.set_controls.proofs.set_controls.Goals as goal
-
--- what was tested, once it is not refused
-tested : (c : tie.Else1) → let after-start = c.before.before.before.before in let a = after-start.before.before.args in ControlsTested a.table.now a.whole.now a.wheel
-tested c = set_controls_says _ _ _ _ _ (sym c.before.refuse-controls.ensures ∙ c.if1.false)
 
 pub returns-then-number-ne0 : goal.returns-then-number-ne0
 unfolding set_controls
 returns-then-number-ne0 c = settled_refused _ _ _ _ _ _ _ c.refuse_controls-number.ensures c.if-number-ne0.true refl
 
 pub put_controls-requires : goal.put_controls-requires
-put_controls-requires c = let r = tested c.before.before in omega arith
+put_controls-requires c = let r = (set_controls_says _ _ _ _ _ (sym c.refuse_controls-number.ensures ∙ c.if-number-ne0.false)) in omega arith
 
 pub bounds-whole-1 : goal.bounds-whole-1
 bounds-whole-1 c =
-    let r = tested c.before.before.before.before.before.before in
+    let r = (set_controls_says _ _ _ _ _ (sym c.refuse_controls-number.ensures ∙ c.if-number-ne0.false)) in
     omega arith
 
 pub bounds-whole-1-then-whole-eq-AIMED : goal.bounds-whole-1-then-whole-eq-AIMED
 bounds-whole-1-then-whole-eq-AIMED c =
-    let r = tested c.before.before.before.before.before.before.before in
+    let r = (set_controls_says _ _ _ _ _ (sym c.refuse_controls-number.ensures ∙ c.if-number-ne0.false)) in
     omega arith
 
 pub returns-then-whole-eq-AIMED : goal.returns-then-whole-eq-AIMED

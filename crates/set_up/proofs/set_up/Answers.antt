@@ -12,7 +12,6 @@ use Rattle.refusals.specs.After.{after}
 use Rattle.refusals.proofs.Settled.{settled_refused, settled_done}
 use Rattle.set_up.specs.SetUp.{set_up}
 use Rattle.set_up.proofs.Accepted.{SetUpTested, set_up_says}
-use Rattle.set_up.proofs.set_up.Tie as tie
 use Rattle.set_up.proofs.set_up.Goals as goal
 
 -- the four whole numbers, written one by one
@@ -25,39 +24,38 @@ whole_set_up (a ∷ b ∷ c ∷ []) up forward h = absurd (omega arith)
 whole_set_up (a ∷ b ∷ c ∷ d ∷ []) up forward h = refl
 whole_set_up (a ∷ b ∷ c ∷ d ∷ e ∷ m) up forward h = absurd (omega arith)
 
--- what was tested, once it is not refused
-tested : (c : tie.Else1) → let after-start = c.before.before.before.before in let a = after-start.before.before.args in SetUpTested a.table.now a.whole.now a.up a.forward
-tested c = set_up_says _ _ _ _ (sym c.before.refuse-set-up.ensures ∙ c.if1.false)
-
-place : (c : tie.Else1) (k : ℕ) → let after-start = c.before.before.before.before in k < at.WHOLE → k < length after-start.before.before.args.whole.now
-place c k l = let s = (tested c).sizes in omega arith
-
 pub returns-then-number-ne0 : goal.returns-then-number-ne0
 unfolding set_up
 returns-then-number-ne0 c = settled_refused _ _ _ _ _ _ _ c.refuse_set_up-number.ensures c.if-number-ne0.true refl
 
 pub copy-requires : goal.copy-requires
-copy-requires c = let s = (tested c.before.before).sizes in omega arith
+copy-requires c = let s = ((set_up_says _ _ _ _ (sym c.refuse_set_up-number.ensures ∙ c.if-number-ne0.false))).sizes in omega arith
 
 pub bounds-whole-0 : goal.bounds-whole-0
 bounds-whole-0 c =
-    let s = (tested c.before.before.before.before.before).sizes in omega arith
+    let s = ((set_up_says _ _ _ _ (sym c.refuse_set_up-number.ensures ∙ c.if-number-ne0.false))).sizes in omega arith
 
 pub bounds-whole-1 : goal.bounds-whole-1
 bounds-whole-1 c =
-    let l = place c.before.before.before.before.before at.MARK (omega arith) in search rules
+    let s = (set_up_says _ _ _ _ (sym c.refuse_set_up-number.ensures ∙ c.if-number-ne0.false)).sizes in
+    let l : at.MARK < length c.args.whole.now = omega arith in
+    search rules
 
 pub bounds-whole-2 : goal.bounds-whole-2
 bounds-whole-2 c =
-    let l = place c.before.before.before.before.before at.UP (omega arith) in search rules
+    let s = (set_up_says _ _ _ _ (sym c.refuse_set_up-number.ensures ∙ c.if-number-ne0.false)).sizes in
+    let l : at.UP < length c.args.whole.now = omega arith in
+    search rules
 
 pub bounds-whole-3 : goal.bounds-whole-3
 bounds-whole-3 c =
-    let l = place c.before.before.before.before.before at.FORWARD (omega arith) in search rules
+    let s = (set_up_says _ _ _ _ (sym c.refuse_set_up-number.ensures ∙ c.if-number-ne0.false)).sizes in
+    let l : at.FORWARD < length c.args.whole.now = omega arith in
+    search rules
 
 pub returns : goal.returns
 unfolding set_up of_bits
 returns c =
     let a = c.before.args in
     settled_done _ _ _ _ _ _ _ c.refuse_set_up-number.ensures c.if-number-ne0.false
-    (rw c.copy.ensures (ap (after 0 (replicate at.SIZE zero)) (whole_set_up a.whole.now a.up a.forward (tested c.before.before.before.before.before).sizes.four)))
+    (rw c.copy.ensures (ap (after 0 (replicate at.SIZE zero)) (whole_set_up a.whole.now a.up a.forward ((set_up_says _ _ _ _ (sym c.refuse_set_up-number.ensures ∙ c.if-number-ne0.false))).sizes.four)))

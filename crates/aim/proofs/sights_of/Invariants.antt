@@ -1,0 +1,15 @@
+-- `aim::sights_of` meets its contract: a turn for each wheel. Assumes nothing.
+use borrow.Author.Rules.{rules}
+use Prim.Native.Nat.{◌-◌}
+use native.Mathlib.Omega.{arith}
+use lib.Ieee.{binary32}
+use Rattle.lists.proofs.Turns.{Turning, turning_start, turning_again, turning_done}
+use Rattle.passes.specs.Passes.{given, each_gives}
+use Rattle.aim.specs.Aim.{sight_of, sights_of}
+use Rattle.aim.proofs.sights_of.Given as goal
+
+abbrev pub invariant-loop-i : goal.invariant-loop-i
+invariant-loop-i l = Turning (given (sight_of binary32) l.table) l.n l.initial.all l.i l.all
+
+abbrev pub decreases-loop-i : goal.decreases-loop-i
+decreases-loop-i l = l.n - l.i

@@ -1,0 +1,7 @@
+-- `replies::put_sight` meets its contract: `put_numbers` puts them all. Assumes nothing.
+use borrow.Author.Rules.{rules}
+use Rattle.replies.proofs.put_sight.Goals as goal
+
+pub returns : goal.returns
+returns c =
+    rw c.sight_numbers-numbers.ensures at c.put_numbers.ensures

@@ -1,0 +1,20 @@
+-- `slides::gather` meets its contract: a turn for each wheel. Assumes nothing.
+use borrow.Author.Rules.{rules}
+use Prim.Native.Nat.{◌-◌}
+use native.Mathlib.Omega.{arith}
+use Rattle.lists.proofs.Turns.{Turning, turning_start, turning_again, turning_done}
+use Rattle.wheel.specs.Parts.{friction_in}
+use Rattle.passes.specs.Passes.{given, each_gives}
+use Rattle.slides.specs.Slides.{gathered}
+use Rattle.slides.proofs.gather.Goals as goal
+
+pub loop-i-init : goal.loop-i-init
+loop-i-init c = turning_start _ _ _
+
+pub loop-i-preserved : goal.loop-i-preserved
+unfolding given
+loop-i-preserved c = turning_again _ _ _ _ _ _ c.loop-i.invariant (omega arith) (rw (← c.get_friction.ensures))
+
+pub returns : goal.returns
+unfolding gathered each_gives
+returns c = rw (← c.airborne-airborne.ensures) (turning_done _ _ _ _ _ c.loop-i.invariant (omega arith))
