@@ -1,5 +1,6 @@
 -- What is read into the window, and what comes after a run. Of the bytes that arrive no contract of the kit speaks: they are the window's, behind those that are kept. Definitions only.
-use Rattle.std.specs.Prelude.{ℕ, ◌≤◌, Bool, true, false, List, ◌≡◌, eqb, ℤ, pos, negsuc, length, take}
+use Rattle.std.specs.Prelude.{ℕ, ◌≤◌, Bool, true, false, List, ◌≡◌, eqb, length, take, Result, Ok, Err}
+use Rattle.std.specs.declared.io.Error.{Error}
 use Rattle.session.specs.declared.Stands.{Stands}
 use Rattle.console.specs.declared.Input.{Input}
 
@@ -7,9 +8,9 @@ abbrev pub input : ℕ → Bool → Bool → Input
 input filled last runs = record { filled = filled; last = last; runs = runs }
 
 -- a read that moved bytes, or came to the end of the input, was not interrupted; of one that failed nothing is known
-abbrev pub Interrupted : ℤ → Bool → Type 0
-Interrupted (pos n) r = r ≡ false
-Interrupted (negsuc n) r = Unit
+abbrev pub Interrupted : Result ℕ Error → Bool → Type 0
+Interrupted (Ok n) r = r ≡ false
+Interrupted (Err e) r = Unit
 
 -- bytes are read behind the first ones of a window, which are kept; r of them stand there then
 pub record Fills (filled r : ℕ) (before after : List ℕ) : Type 0 where

@@ -1,9 +1,10 @@
-// The scenario program between standard input and standard output. The kit's contracts tell neither which bytes arrive nor what was written. Those here
-// say that the program went as `session` defines it over some blocks, those that were read, and that only its own texts are handed to the write. A stream
-// of any length runs in the same memory.
+// The scenario program between a reader and a writer: standard input and standard output. Their contracts tell neither which bytes arrive nor what was
+// written. Those here say that the program went as `session` defines it over some blocks, those that were read, and that only its own texts are handed to
+// the write. A stream of any length runs in the same memory.
 #![tactic(auto)]
 
-ghost use Rattle.std.specs.Prelude.{◌≤◌, ◌≡◌, length, take};
+ghost use Rattle.std.specs.Prelude.{◌↔◌, ◌≤◌, ◌≡◌, IfErr, IsTrue, length, take};
+ghost use Rattle.std.specs.IoError.{error_kind};
 ghost use Rattle.scenario.specs.Format.{format};
 ghost use Rattle.turns.specs.Car.{car};
 ghost use Rattle.session.specs.Layout as layout;
@@ -14,9 +15,9 @@ ghost use Rattle.console.specs.Writing.{Printed};
 ghost use Rattle.console.specs.Turning.{Turned};
 ghost use Rattle.console.specs.Serves.{Serves};
 
-use libc::{STDIN_FILENO, STDOUT_FILENO};
 use session::layout::{TEXT_BYTES, WINDOW_BYTES};
 use session::{Stands, Step};
+use std::io::{self, ErrorKind, Read, Write};
 use table::layout::{SIZE, WHOLE};
 
 // Where the reading stands: how many bytes are in the window, whether the input has ended, and whether the program runs on.
@@ -35,79 +36,84 @@ fn standing(filled: usize, last: bool, runs: bool) -> Input
 }
 
 // Writes a text of the program's, and answers whether it could. All that is written goes through here.
-fn print(text: &[u8]) -> bool
+fn print<W: Write>(writer: &mut W, text: &[u8]) -> bool
     requires { Printed text.now }
 {
-    io::write_all(STDOUT_FILENO, text)
+    writer.write_all(text).is_ok()
 }
 
 // Writes the first bytes of a buffer, which are such a text.
-fn write_first(out: &[u8], at: usize) -> bool
+fn write_first<W: Write>(writer: &mut W, out: &[u8], at: usize) -> bool
     requires { (at ≤ length out.now) × Printed (take at out.now) }
 {
-    print(&out[..at])
+    print(writer, &out[..at])
 }
 
 // The same, where the buffer's length is known.
-fn write_text(out: &[u8; TEXT_BYTES], at: usize) -> bool
+fn write_text<W: Write>(writer: &mut W, out: &[u8; TEXT_BYTES], at: usize) -> bool
     requires { (at ≤ layout.TEXT-BYTES) × Printed (take at out.now) }
 {
-    write_first(out, at)
+    write_first(writer, out, at)
 }
 
 // Whether a read that answered so was interrupted by a signal before it had any byte.
-fn is_interrupted(got: isize) -> bool
-    ensures { Interrupted got result }
+fn is_interrupted(got: &io::Result<usize>) -> bool
+    ensures moved { Interrupted got.now result }
+    ensures failed { IfErr got.now (λ e. IsTrue result ↔ (error_kind e ≡ ErrorKind.Interrupted)) }
 {
-    if got < 0 {
-        os::errno() == libc::EINTR
-    } else {
-        false
+    match got {
+        Ok(_) => false,
+        Err(e) => e.kind() == ErrorKind::Interrupted,
     }
 }
 
 // Reads what comes next, and answers how many bytes: none at the end of the input, or where it cannot be read. An interrupted read is no end: it is made
 // again, and since a proved loop has to end, the tries are counted down from a number that no run uses up.
-fn read_some(free: &mut [u8]) -> usize
+fn read_some<R: Read>(reader: &mut R, free: &mut [u8]) -> usize
     ensures { (result ≤ length free.old) × (length free.new ≡ length free.old) }
 {
-    let mut got = libc::read(STDIN_FILENO, free);
+    let mut got = reader.read(free);
     let mut tries = u64::MAX;
-    while tries > 0 && is_interrupted(got) {
+    while tries > 0 && is_interrupted(&got) {
         tries -= 1u64;
-        got = libc::read(STDIN_FILENO, free);
+        got = reader.read(free);
     }
-    io::count(got, free)
+    got.unwrap_or(0)
 }
 
 // Reads behind the first bytes of a window, and answers how many it has then.
-fn read_behind(window: &mut [u8], filled: usize) -> usize
+fn read_behind<R: Read>(reader: &mut R, window: &mut [u8], filled: usize) -> usize
     requires { filled ≤ length window.old }
     ensures { Fills filled result window.old window.new }
 {
-    let n = read_some(&mut window[filled..]);
+    let n = read_some(reader, &mut window[filled..]);
     filled + n
 }
 
 // The same, where the window's length is known.
-pub fn fill(window: &mut [u8; WINDOW_BYTES], filled: usize) -> usize
+pub fn fill<R: Read>(reader: &mut R, window: &mut [u8; WINDOW_BYTES], filled: usize) -> usize
     requires { filled ≤ layout.WINDOW-BYTES }
     ensures { Fills filled result window.old window.new × (result ≤ layout.WINDOW-BYTES) }
 {
-    read_behind(window, filled)
+    read_behind(reader, window, filled)
 }
 
 // Reads behind the window's first bytes. A read that gives nothing is the last one.
-fn read_more(window: &mut [u8; WINDOW_BYTES], filled: usize) -> Input
+fn read_more<R: Read>(reader: &mut R, window: &mut [u8; WINDOW_BYTES], filled: usize) -> Input
     requires { filled ≤ layout.WINDOW-BYTES }
     ensures { ReadsMore filled result window.old window.new × (result.filled ≤ layout.WINDOW-BYTES) }
 {
-    let now = fill(window, filled);
+    let now = fill(reader, window, filled);
     standing(now, now == filled, true)
 }
 
 // What comes after a step whose text is written: another one at once, or when more bytes have come; or nothing.
-fn read_on(window: &mut [u8; WINDOW_BYTES], step: Step, last: bool) -> Input
+fn read_on<R: Read>(
+    reader: &mut R,
+    window: &mut [u8; WINDOW_BYTES],
+    step: Step,
+    last: bool,
+) -> Input
     requires { step.filled ≤ layout.WINDOW-BYTES }
     ensures { ReadsOn step.stands step.filled last result window.old window.new × (result.filled ≤ layout.WINDOW-BYTES) }
 {
@@ -115,12 +121,14 @@ fn read_on(window: &mut [u8; WINDOW_BYTES], step: Step, last: bool) -> Input
     match stands {
         Stands::Ended => standing(step.filled, last, false),
         Stands::Full => standing(step.filled, last, true),
-        Stands::More => read_more(window, step.filled),
+        Stands::More => read_more(reader, window, step.filled),
     }
 }
 
 // Runs the codes in the window, writes their lines, and reads on. A text that cannot be written ends the program.
-fn turn(
+fn turn<R: Read, W: Write>(
+    reader: &mut R,
+    writer: &mut W,
     window: &mut [u8; WINDOW_BYTES],
     input: Input,
     table: &mut [f32; SIZE],
@@ -131,15 +139,17 @@ fn turn(
     ensures { Turned (run_of format input.last (car table.old whole.old) layout.TEXT-BYTES (take input.filled window.old)) (take input.filled window.old) input.last result window.new out.old out.new table.new whole.new }
 {
     let step = session::window::step(window, input.filled, input.last, table, whole, out);
-    if !write_text(out, step.at) {
+    if !write_text(writer, out, step.at) {
         return standing(0, true, false);
     }
-    read_on(window, step, input.last)
+    read_on(reader, window, step, input.last)
 }
 
 // Takes turns from a window with so many bytes until the program ends, and answers how many bytes are left at the window's start: a code 0 that ended it
 // is the first. A proved loop has to end, and nothing says that a stream does: the turns are counted down from a number that no run uses up.
-fn serve(
+fn serve<R: Read, W: Write>(
+    reader: &mut R,
+    writer: &mut W,
     window: &mut [u8; WINDOW_BYTES],
     filled: usize,
     table: &mut [f32; SIZE],
@@ -153,14 +163,16 @@ fn serve(
     let mut turns = u64::MAX;
     while turns > 0 && input.runs {
         turns -= 1u64;
-        input = turn(window, input, table, whole, out);
+        input = turn(reader, writer, window, input, table, whole, out);
     }
     input.filled
 }
 
-// Runs the program from its start, over the first bytes of a window and then over standard input, and answers how many bytes are left at the window's
+// Runs the program from its start, over the first bytes of a window and then over what is read, and answers how many bytes are left at the window's
 // start: none where a text could not be written.
-pub fn run(
+pub fn run<R: Read, W: Write>(
+    reader: &mut R,
+    writer: &mut W,
     window: &mut [u8; WINDOW_BYTES],
     filled: usize,
     table: &mut [f32; SIZE],
@@ -171,8 +183,8 @@ pub fn run(
     ensures { Serves start_car (take filled window.old) result window.new table.new whole.new }
 {
     let at = session::start::start(table, whole, out);
-    if !write_text(out, at) {
+    if !write_text(writer, out, at) {
         return 0;
     }
-    serve(window, filled, table, whole, out)
+    serve(reader, writer, window, filled, table, whole, out)
 }

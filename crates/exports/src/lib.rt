@@ -1,4 +1,4 @@
-// The functions that a host links: `rt staticlib exports` puts them into one archive. They are the six calls on
+// The functions that a host links: `rt lib` in this folder puts them into one archive. They are the six calls on
 // numbers and flat lists, set controls in two forms; a list is a pointer and a length. Each is total on every length and every number, answers the refusal number of its
 // call, and refuses with 1, before all else, a list of settings, controls, chassis or results of the wrong length. Results are written only
 // where the answer is 0.

@@ -6,24 +6,31 @@ ghost use Rattle.session.specs.Layout as layout;
 ghost use Rattle.replay.specs.Scenarios.{Plays, Begins};
 
 use session::layout::{TEXT_BYTES, WINDOW_BYTES};
+use std::io::{Read, Write};
 use table::layout::{SIZE, WHOLE};
 
 // The bytes of a code 0.
 const END_BYTES: usize = 1;
 
 // Plays the scenario at the start of the window, with so many bytes there, and answers how many are left.
-fn play(window: &mut [u8; WINDOW_BYTES], filled: usize, out: &mut [u8; TEXT_BYTES]) -> usize
+fn play<R: Read, W: Write>(
+    reader: &mut R,
+    writer: &mut W,
+    window: &mut [u8; WINDOW_BYTES],
+    filled: usize,
+    out: &mut [u8; TEXT_BYTES],
+) -> usize
     requires { filled ≤ layout.WINDOW-BYTES }
     ensures { Plays (take filled window.old) result window.new × (result ≤ layout.WINDOW-BYTES) }
 {
     let mut table = [0.0; SIZE];
     let mut whole = [0u32; WHOLE];
-    console::run(window, filled, &mut table, &mut whole, out)
+    console::run(reader, writer, window, filled, &mut table, &mut whole, out)
 }
 
 // Moves what stands one byte behind the start of the code that ended a scenario to the window's start, reads on if that is nothing, and answers how many
 // bytes are there. That is behind a code 0; in a malformed code, the rest of it.
-fn next(window: &mut [u8; WINDOW_BYTES], left: usize) -> usize
+fn next<R: Read>(reader: &mut R, window: &mut [u8; WINDOW_BYTES], left: usize) -> usize
     requires { left ≤ layout.WINDOW-BYTES }
     ensures { Begins left result window.old window.new × (result ≤ layout.WINDOW-BYTES) }
 {
@@ -34,18 +41,20 @@ fn next(window: &mut [u8; WINDOW_BYTES], left: usize) -> usize
     if behind > 0 {
         return behind;
     }
-    console::fill(window, 0)
+    console::fill(reader, window, 0)
 }
 
 // The scenarios are counted down, so that the loop ends.
-fn main() {
-    let mut window = io::large_buffer();
-    let mut out = io::large_buffer();
-    let mut filled = console::fill(&mut window, 0);
+fn main(rt: HostRuntime) {
+    let mut reader = rt.stdin();
+    let mut writer = rt.stdout();
+    let mut window = [0u8; WINDOW_BYTES];
+    let mut out = [0u8; TEXT_BYTES];
+    let mut filled = console::fill(&mut reader, &mut window, 0);
     let mut scenarios = u64::MAX;
     while scenarios > 0 && filled > 0 {
         scenarios -= 1u64;
-        let left = play(&mut window, filled, &mut out);
-        filled = next(&mut window, left);
+        let left = play(&mut reader, &mut writer, &mut window, filled, &mut out);
+        filled = next(&mut reader, &mut window, left);
     }
 }

@@ -1,12 +1,23 @@
 // Document 01, "Scenario program": a stream of codes from standard input, and a line for each to standard output.
 #![tactic(auto)]
 
+use session::layout::{TEXT_BYTES, WINDOW_BYTES};
 use table::layout::{SIZE, WHOLE};
 
-fn main() {
+fn main(rt: HostRuntime) {
+    let mut reader = rt.stdin();
+    let mut writer = rt.stdout();
     let mut table = [0.0; SIZE];
     let mut whole = [0u32; WHOLE];
-    let mut window = io::large_buffer();
-    let mut out = io::large_buffer();
-    console::run(&mut window, 0, &mut table, &mut whole, &mut out);
+    let mut window = [0u8; WINDOW_BYTES];
+    let mut out = [0u8; TEXT_BYTES];
+    console::run(
+        &mut reader,
+        &mut writer,
+        &mut window,
+        0,
+        &mut table,
+        &mut whole,
+        &mut out,
+    );
 }

@@ -1,0 +1,16 @@
+-- `session::start::start` meets its contract. Assumes nothing.
+use borrow.Author.Rules.{rules}
+use native.Mathlib.Omega.{arith}
+use mathlib.Core.Path.{◌≡◌}
+use lib.ListN.{length}
+use Rattle.table.specs.Layout as places
+use Rattle.lines.specs.Line.{title}
+use Rattle.session.proofs.Started.{set_up_starts}
+use Rattle.session.proofs.start.start.Goals as goal
+
+pub returns : goal.returns
+unfolding title
+returns c =
+    let rows : length c.args.table.now ≡ places.SIZE = search rules in
+    let marks : length c.args.whole.now ≡ places.WHOLE = search rules in
+    record { puts = c.put_title.ensures; text_fits = omega (arith, c.put_title.ensures.end); car = set_up_starts _ _ _ _ _ rows marks c.set_up.ensures }
