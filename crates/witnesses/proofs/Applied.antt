@@ -89,10 +89,10 @@ read_again : accepted binary32 (ReadWheel 0) (run_all binary32 calm (after_drive
 unfolding opened
 read_again = refl
 
-pub witness-settled-until-next :
+pub witness_settled_until_next :
     (read_wheel binary32 (run_all binary32 calm (after_drive binary32 other_drive)).table (run_all binary32 calm (after_drive binary32 other_drive)).whole 0).reply.settled
     ≡ (read_after_drive binary32 other_drive 0).reply.settled
-witness-settled-until-next = demands.settled_until_next binary32 other_drive 0 other_accepted (lit< tt) calm is_quiet read_again
+witness_settled_until_next = demands.settled_until_next binary32 other_drive 0 other_accepted (lit< tt) calm is_quiet read_again
 
 -- ---- demand 2
 abbrev car : State
@@ -102,25 +102,25 @@ aim_accepted : refuse_aim binary32 car.table car.whole (rolling twelve) ≡ 0
 unfolding opened
 aim_accepted = refl
 
-pub witness-accepted-aim :
+pub witness_accepted_aim :
     aim_of binary32 car.table car.whole (rolling twelve)
     ≡ after (aimed_by binary32 (forward_of car.whole) (rolling twelve) (count_of car.whole) (aimed_table binary32 (rolling twelve) (count_of car.whole) car.table))
     (aimed_table binary32 (rolling twelve) (count_of car.whole) car.table) (marked car.whole at.AIMED)
-witness-accepted-aim = demands.accepted_aim binary32 car.table car.whole (rolling twelve) aim_accepted
+witness_accepted_aim = demands.accepted_aim binary32 car.table car.whole (rolling twelve) aim_accepted
 
-pub witness-accepted-drive :
+pub witness_accepted_drive :
     drive_of binary32 the_drive.table the_drive.whole road 3
     ≡ after (driven_by the_drive.table 3 (whole_step binary32 stored (up_of the_drive.whole) road 3 the_drive.table))
     (whole_step binary32 stored (up_of the_drive.whole) road 3 the_drive.table).table (marked the_drive.whole at.DRIVEN)
-witness-accepted-drive = demands.accepted_drive binary32 the_drive.table the_drive.whole road 3 drive_accepted
+witness_accepted_drive = demands.accepted_drive binary32 the_drive.table the_drive.whole road 3 drive_accepted
 
 -- the aim and the drive after it, as one update of the car as it was before them
-pub witness-aim-then-drive :
+pub witness_aim_then_drive :
     ((aim_of binary32 car.table car.whole (rolling twelve)).reply.speed ≡ (update_of binary32 1 0 (rolling twelve) road 3 car.table).speed)
     × (drive_of binary32 (aim_of binary32 car.table car.whole (rolling twelve)).table (aim_of binary32 car.table car.whole (rolling twelve)).whole road 3
     ≡ updated binary32 car.whole (rolling twelve) road 3 car.table)
 unfolding opened
-witness-aim-then-drive = demands.aim_then_drive binary32 car.table car.whole (rolling twelve) road 3 aim_accepted refl
+witness_aim_then_drive = demands.aim_then_drive binary32 car.table car.whole (rolling twelve) road 3 aim_accepted refl
 
 -- the front wheel of the aimed car is placed under the kept chassis, and the drive that follows ends one update
 pub witness_aimed_transforms : Placed binary32 (left_by aimed).table 0
@@ -131,9 +131,9 @@ pub then_driven : accepted binary32 (Drive road 3) (left_by aimed) ≡ true
 unfolding opened
 then_driven = refl
 
-pub witness-drive-is-update :
+pub witness_drive_is_update :
     drive_of binary32 (left_by aimed).table (left_by aimed).whole road 3 ≡ updated binary32 (left_by aimed).whole (chassis_at (left_by aimed).table) road 3 (left_by aimed).table
-witness-drive-is-update = demands.drive_is_update binary32 lent 1 0 aimed set_up_accepted road 3 then_driven
+witness_drive_is_update = demands.drive_is_update binary32 lent 1 0 aimed set_up_accepted road 3 then_driven
 
 -- ---- the centres of that drive by rule 1, and the next aim
 abbrev aimed_driven : Step
@@ -170,9 +170,9 @@ unfolding opened
 witness_sliding_grips = demands.sliding_grips binary32 the_drive 0 front_grounded front_limit front_slides
 
 -- the rear wheel: −4 and −4; and on its brake of 4
-pub witness-not-sliding-is-demand :
+pub witness_not_sliding_is_demand :
     (forward_impulse binary32 the_drive 2 ≡ forward_demand binary32 the_drive 2) × (side_impulse binary32 the_drive 2 ≡ side_demand binary32 the_drive 2)
-witness-not-sliding-is-demand = demands.not_sliding_is_demand binary32 the_drive 2 rear_grounded rear_grips
+witness_not_sliding_is_demand = demands.not_sliding_is_demand binary32 the_drive 2 rear_grounded rear_grips
 
 pub witness_unpowered_within_brake : WithinBrake binary32 four minus_four
 unfolding opened
@@ -182,10 +182,10 @@ pub witness_airborne_within_brake : WithinBrake binary32 zero zero
 unfolding opened
 witness_airborne_within_brake = demands.unpowered_within_brake binary32 the_drive 1 (stepped 1 (lit< tt)) lifted_unpowered
 
-pub witness-impulses-are-its-own :
+pub witness_impulses_are_its_own :
     (forward_impulse binary32 the_drive 0 ≡ forward_impulse binary32 other_drive 0)
     × ((side_impulse binary32 the_drive 0 ≡ side_impulse binary32 other_drive 0) × (skid_at binary32 the_drive 0 ≡ skid_at binary32 other_drive 0))
-witness-impulses-are-its-own = demands.impulses_are_its_own drive_accepted other_accepted (lit< tt) (lit< tt) alike
+witness_impulses_are_its_own = demands.impulses_are_its_own drive_accepted other_accepted (lit< tt) (lit< tt) alike
 
 -- ---- the tables that the calls wrote are held, as the calls' own numbers are
 hands_held_lem : HandsHeld binary32 aimed

@@ -48,10 +48,10 @@ pub witness_step_as_before : whole_step binary32 stored 1 road 3 the_drive.table
 unfolding opened
 witness_step_as_before = demands.step_as_before binary32 stored 1 3 road the_drive.table refl (lit≤ tt) all_tenth
 
-pub witness-drive-as-before :
+pub witness_drive_as_before :
     drive_of binary32 the_drive.table the_drive.whole road 3
     ≡ after (driven_by the_drive.table 3 (fixed_step binary32 stored 1 road 3 the_drive.table)) (fixed_step binary32 stored 1 road 3 the_drive.table).table (marked the_drive.whole at.DRIVEN)
-witness-drive-as-before = demands.drive_as_before binary32 the_drive.table the_drive.whole road 3 all_tenth drive_accepted
+witness_drive_as_before = demands.drive_as_before binary32 the_drive.table the_drive.whole road 3 all_tenth drive_accepted
 
 -- ---- the same drive after its calls. One add hands in another roll influence: it is refused
 adds_hand : AddsHand binary32 (IsTenth binary32) aimed (run binary32 (SetUp 1 0) lent)
@@ -62,11 +62,11 @@ pub witness_stored_as_added : (wheel_at (left_by aimed).table 2).settings.roll �
 unfolding opened
 witness_stored_as_added = demands.stored_as_added binary32 lent 1 0 aimed set_up_accepted (IsTenth binary32) adds_hand 2 (lit< tt)
 
-pub witness-history-as-before :
+pub witness_history_as_before :
     drive_of binary32 (left_by aimed).table (left_by aimed).whole road 3
     ≡ after (driven_by (left_by aimed).table 3 (fixed_step binary32 stored 1 road 3 (left_by aimed).table)) (fixed_step binary32 stored 1 road 3 (left_by aimed).table).table (marked (left_by aimed).whole at.DRIVEN)
 unfolding opened
-witness-history-as-before = demands.history_as_before binary32 lent 1 0 aimed set_up_accepted adds_hand road 3 then_driven
+witness_history_as_before = demands.history_as_before binary32 lent 1 0 aimed set_up_accepted adds_hand road 3 then_driven
 
 -- ---- the second car: its rear wheel has 1. With 0.1 in every wheel the same calls turn it about x by 0x3e5596ac, as the oracle says of them by code 1
 abbrev turned_by : Work → ℕ

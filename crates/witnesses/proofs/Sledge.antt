@@ -114,10 +114,10 @@ read_again : accepted binary32 (ReadWheel 0) (run_all binary32 calm (after_drive
 unfolding opened
 read_again = refl
 
-pub witness-read-until-next :
+pub witness_read_until_next :
     (read_wheel binary32 (run_all binary32 calm (after_drive binary32 sledge)).table (run_all binary32 calm (after_drive binary32 sledge)).whole 0).reply
     ≡ (read_after_drive binary32 sledge 0).reply
-witness-read-until-next = demands.read_until_next binary32 sledge 0 sledge_accepted (lit< tt) calm is_quiet read_again
+witness_read_until_next = demands.read_until_next binary32 sledge 0 sledge_accepted (lit< tt) calm is_quiet read_again
 
 -- ---- what it means
 pub witness_no_axis_is_dead : NoRoll binary32 sledge 0 × NoSide binary32 sledge 0

@@ -108,8 +108,8 @@ none_steers_lem = refl
 pub witness_row_keeps_controls : controls_of (wheel_at driven.table 0).controls ≡ turned half
 witness_row_keeps_controls = demands.row_keeps_controls binary32 fitted 0 (turned half) ploughed fitted_shape set none_steers_lem
 
-pub witness-steered-at-each-aim :
+pub witness_steered_at_each_aim :
     (wheel_at (aim_of binary32 driven.table driven.whole capsized).table 0).place.axle
     ≡ axle_under binary32 capsized.pose (rotation_from_angle binary32 (normalize_or_zero binary32 (neg_v (direction_under binary32 capsized.pose (wheel_at driven.table 0)))).vector half) (wheel_at driven.table 0)
 unfolding opened
-witness-steered-at-each-aim = demands.steered_at_each_aim binary32 fitted 0 (turned half) ploughed fitted_shape set none_steers_lem capsized capsized_accepted
+witness_steered_at_each_aim = demands.steered_at_each_aim binary32 fitted 0 (turned half) ploughed fitted_shape set none_steers_lem capsized capsized_accepted
