@@ -18,8 +18,8 @@ whole_root-n-requires c = handed_lt binary32 c.args.m c.args.e c.requires.1
 pub overflow_add-q : goal.overflow_add-q
 overflow_add-q c = omega (arith, root_fits binary32 c.args.m c.args.e c.whole_root-n.result c.requires.1 c.whole_root-n.ensures.0)
 
-pub float_from_bits-result : goal.float_from_bits-result
-float_from_bits-result c = no_nan binary32 c.args.e _ c.requires.2 (mask_lt ((c.whole_root-n.result + 1) / 2) 23)
-
 pub returns : goal.returns
 returns c = is_nearest binary32 c.args.m c.args.e c.whole_root-n.result c.requires.0 c.requires.1 c.requires.2 c.whole_root-n.ensures.0 c.whole_root-n.ensures.1
+
+pub float_from_bits-result : goal.float_from_bits-result
+float_from_bits-result c = no_nan binary32 c.args.e _ c.requires.2 (mask_lt ((c.whole_root-n.result + 1) / 2) 23)
