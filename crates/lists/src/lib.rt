@@ -1,2 +1,1 @@
-
 #![tactic(auto)]

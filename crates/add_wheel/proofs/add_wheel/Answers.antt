@@ -1,5 +1,5 @@
 -- `add_wheel::add_wheel` meets its contract: it is refused with nothing changed, or leaves one wheel more and the mark new. Assumes nothing.
-use Prim.Native.Nat.{ℕ, ◌<◌}
+use Prim.Native.Nat.{◌<◌}
 use mathlib.Core.Path.{refl, sym, ◌∙◌}
 use native.Mathlib.Omega.{arith}
 use borrow.Author.Rules.{rules}
@@ -7,7 +7,7 @@ use lib.ListN.{length}
 use Rattle.table.specs.Layout as at
 use Rattle.refusals.proofs.Settled.{settled_refused, settled_done}
 use Rattle.add_wheel.specs.Add.{add_wheel}
-use Rattle.add_wheel.proofs.Accepted.{AddTested, add_says}
+use Rattle.add_wheel.proofs.Accepted.{add_says}
 use Rattle.add_wheel.proofs.add_wheel.Goals as goal
 
 pub returns-then-number-ne0 : goal.returns-then-number-ne0

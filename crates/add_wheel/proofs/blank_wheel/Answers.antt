@@ -1,5 +1,4 @@
 -- `add_wheel::blank_wheel` meets its contract: a row of zeros is read. Assumes nothing.
-use borrow.Author.Rules.{rules}
 use lib.Ieee.{of_bits}
 use Rattle.add_wheel.specs.Add.{blank_wheel}
 use Rattle.add_wheel.proofs.blank_wheel.Goals as goal

@@ -1,5 +1,4 @@
 -- `aim::aimed_table` meets its contract: the chassis is put, and the pass runs over the table that holds it. Assumes nothing.
-use borrow.Author.Rules.{rules}
 use Rattle.aim.specs.Aim.{aimed_table}
 use Rattle.aim.proofs.aimed_table.Goals as goal
 

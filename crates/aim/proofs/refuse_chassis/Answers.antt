@@ -2,7 +2,7 @@
 use native.Mathlib.Omega.{arith}
 use Rattle.lists.specs.Refusal.{first_failed}
 use Rattle.lists.proofs.Picks.{picks, told}
-use Rattle.refusals.proofs.Says.{Shape, shape_says}
+use Rattle.refusals.proofs.Says.{shape_says}
 use Rattle.ranges.specs.Ranges.{stored_in_range}
 use Rattle.refusals.specs.WheelTests.{wheel_holds}
 use Rattle.aim.specs.Aim.{chassis_tests}

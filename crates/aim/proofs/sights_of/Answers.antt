@@ -1,9 +1,7 @@
 -- `aim::sights_of` meets its contract: a turn for each wheel. Assumes nothing.
-use borrow.Author.Rules.{rules}
 use Prim.Native.Nat.{◌-◌}
 use native.Mathlib.Omega.{arith}
-use lib.Ieee.{binary32}
-use Rattle.lists.proofs.Turns.{Turning, turning_start, turning_again, turning_done}
+use Rattle.lists.proofs.Turns.{turning_start, turning_again, turning_done}
 use Rattle.passes.specs.Passes.{given, each_gives}
 use Rattle.aim.specs.Aim.{sight_of, sights_of}
 use Rattle.aim.proofs.sights_of.Goals as goal

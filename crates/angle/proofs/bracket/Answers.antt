@@ -1,5 +1,5 @@
 -- `angle::bracket` meets its contract. Assumes nothing.
-use Rattle.std.proofs.Common.{refl, mul-le-mul, sub-le, arith, rules}
+use Rattle.std.proofs.Common.{refl, mul-le-mul, sub-le, arith}
 use Rattle.angle.specs.Angle.{bracket}
 use Rattle.angle.proofs.Quotients.{taken_most}
 use Rattle.angle.proofs.bracket.Goals as goal

@@ -1,5 +1,4 @@
 -- `angle::cosine_grains` meets its contract: the brackets, from the innermost out. Assumes nothing.
-use Rattle.std.proofs.Common.{rules}
 use Rattle.angle.specs.Angle.{cosine_grains}
 use Rattle.angle.proofs.cosine_grains.Goals as goal
 

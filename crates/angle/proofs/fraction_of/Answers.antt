@@ -1,6 +1,5 @@
 -- `angle::fraction_of` meets its contract: the grain's power of two goes through the rounding (`OutOfGrains`). Assumes nothing.
 use lib.Ieee.{binary32, of_bits}
-use Rattle.std.proofs.Common.{rules}
 use Rattle.angle.proofs.OutOfGrains.{fraction_is}
 use Rattle.angle.proofs.fraction_of.Goals as goal
 

@@ -1,5 +1,4 @@
 -- `angle::sine_grains` meets its contract: the brackets, from the innermost out. Assumes nothing.
-use Rattle.std.proofs.Common.{rules}
 use Rattle.angle.specs.Angle.{sine_grains}
 use Rattle.angle.proofs.sine_grains.Goals as goal
 

@@ -1,6 +1,5 @@
 -- `early::refuse_frame` meets its contract: each return gives the choice that the definition makes there. Assumes nothing.
 use native.Mathlib.Omega.{arith}
-use borrow.Author.Rules.{rules}
 use Rattle.lists.specs.Refusal.{first_failed}
 use Rattle.lists.proofs.Picks.{picks, told}
 use Rattle.refusals.specs.Handed.{answers_ok}

@@ -1,5 +1,4 @@
 -- `exports::vehicle_aim` meets its contract: a list has not its length, or the call decides. Assumes nothing.
-use borrow.Author.Rules.{rules}
 use Rattle.exports.specs.Calls.{flat_aim}
 use Rattle.flat_out.proofs.Ending.{refused_of_length, settled_of_length, settled_of_call, flattened_of_call}
 use Rattle.exports.proofs.vehicle_aim.Goals as goal

@@ -1,5 +1,4 @@
 -- `exports::vehicle_drive` meets its contract: the results have not their length, the lists are refused, or the call decides. Assumes nothing.
-use borrow.Author.Rules.{rules}
 use mathlib.Core.Path.{refl, sym, ◌∙◌}
 use Rattle.refusals.proofs.Settled.{settled_refused, settled_done}
 use Rattle.exports.specs.Calls.{flat_drive}

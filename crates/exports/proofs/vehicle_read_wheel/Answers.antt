@@ -1,5 +1,4 @@
 -- `exports::vehicle_read_wheel` meets its contract: the results have not their length, or the call decides. Assumes nothing.
-use borrow.Author.Rules.{rules}
 use Rattle.exports.specs.Calls.{flat_read}
 use Rattle.flat_out.proofs.Ending.{refused_of_length, settled_of_length, settled_of_call, flattened_of_call}
 use Rattle.exports.proofs.vehicle_read_wheel.Goals as goal

@@ -1,5 +1,4 @@
 -- `exports::vehicle_set_controls_by_angle` meets its contract: the controls have not their length, or the call decides. Assumes nothing.
-use borrow.Author.Rules.{rules}
 use Rattle.exports.specs.Calls.{flat_controls_by_angle}
 use Rattle.flat_out.proofs.Ending.{refused_of_length, settled_of_length, settled_of_call}
 use Rattle.exports.proofs.vehicle_set_controls_by_angle.Goals as goal

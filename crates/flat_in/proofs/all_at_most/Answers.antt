@@ -2,10 +2,8 @@
 use borrow.Author.Rules.{rules}
 use borrow.Author.Tests.{le-leb, lt-leb}
 use native.Mathlib.Omega.{arith}
-use Prim.Native.Nat.{◌≤◌, ◌-◌}
-use mathlib.Core.Path.{◌≡◌, ◌∙◌, sym}
-use lib.ListN.{length, drop}
-use Rattle.lists.specs.All.{all}
+use Prim.Native.Nat.{◌-◌}
+use mathlib.Core.Path.{◌∙◌, sym}
 use Rattle.lists.proofs.Every.{all_yes, all_no, all_end}
 use Rattle.flat_in.specs.Lists.{at_most}
 use Rattle.flat_in.proofs.all_at_most.Goals as goal

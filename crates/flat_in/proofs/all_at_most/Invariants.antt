@@ -1,12 +1,8 @@
 -- `flat_in::all_at_most` meets its contract: the invariant is that the numbers from i on decide. Assumes nothing.
-use borrow.Author.Rules.{rules}
-use borrow.Author.Tests.{le-leb, lt-leb}
-use native.Mathlib.Omega.{arith}
 use Prim.Native.Nat.{◌≤◌, ◌-◌}
-use mathlib.Core.Path.{◌≡◌, ◌∙◌, sym}
+use mathlib.Core.Path.{◌≡◌}
 use lib.ListN.{length, drop}
 use Rattle.lists.specs.All.{all}
-use Rattle.lists.proofs.Every.{all_yes, all_no, all_end}
 use Rattle.flat_in.specs.Lists.{at_most}
 use Rattle.flat_in.proofs.all_at_most.Given as goal
 

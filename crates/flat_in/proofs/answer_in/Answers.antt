@@ -1,5 +1,4 @@
 -- `flat_in::answer_in` meets its contract: the definition, replayed as the code runs. Assumes nothing.
-use borrow.Author.Rules.{rules}
 use Rattle.lists.proofs.Picks.{picks}
 use Rattle.flat_in.specs.Lists.{answer_in}
 use Rattle.flat_in.proofs.answer_in.Goals as goal

@@ -1,11 +1,9 @@
 -- `flat_in::decode_answers` meets its contract: the first i answers are in place. Assumes nothing.
-use borrow.Author.Rules.{rules}
 use native.Mathlib.Omega.{arith}
-use Prim.Native.Nat.{◌-◌, ◌≤◌}
+use Prim.Native.Nat.{◌-◌}
 use lib.ListN.{length}
-use Rattle.lists.specs.Counted.{listed}
 use Rattle.lists.proofs.Turns.{listed_start, listed_more, listed_end}
-use Rattle.lists.proofs.Filling.{Filling, fill_none, fill_more, fill_all}
+use Rattle.lists.proofs.Filling.{fill_none, fill_more, fill_all}
 use Rattle.flat_in.specs.Lists.{answer_in, answers_in}
 use Rattle.flat_in.proofs.decode_answers.Goals as goal
 

@@ -1,12 +1,9 @@
 -- `flat_in::decode_answers` meets its contract: the first i answers are in place. Assumes nothing.
-use borrow.Author.Rules.{rules}
-use native.Mathlib.Omega.{arith}
 use Prim.Native.Nat.{◌-◌, ◌≤◌}
 use lib.ListN.{length}
 use Rattle.lists.specs.Counted.{listed}
-use Rattle.lists.proofs.Turns.{listed_start, listed_more, listed_end}
-use Rattle.lists.proofs.Filling.{Filling, fill_none, fill_more, fill_all}
-use Rattle.flat_in.specs.Lists.{answer_in, answers_in}
+use Rattle.lists.proofs.Filling.{Filling}
+use Rattle.flat_in.specs.Lists.{answer_in}
 use Rattle.flat_in.proofs.decode_answers.Given as goal
 
 abbrev pub invariant-loop-i : goal.invariant-loop-i

@@ -1,5 +1,4 @@
 -- `flat_in::do_answers_fit` meets its contract: the definition, replayed as the code runs. Assumes nothing.
-use borrow.Author.Rules.{rules}
 use Rattle.lists.proofs.Picks.{picks}
 use Rattle.flat_in.specs.Lists.{answers_fit}
 use Rattle.flat_in.proofs.do_answers_fit.Goals as goal

@@ -1,5 +1,4 @@
 -- `flat_in::hit_up_in` meets its contract: the definition, replayed as the code runs. Assumes nothing.
-use borrow.Author.Rules.{rules}
 use Rattle.flat_in.specs.Lists.{hit_up_in}
 use Rattle.flat_in.proofs.hit_up_in.Goals as goal
 

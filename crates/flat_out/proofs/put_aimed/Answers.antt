@@ -1,5 +1,4 @@
 -- `flat_out::put_aimed` meets its contract: a refusal leaves the list, and the speed and the sights are written. Assumes nothing.
-use borrow.Author.Rules.{rules}
 use Rattle.aim.specs.Sights.{aimed_list}
 use Rattle.flat_out.proofs.Ending.{left_of_refused, written_of_accepted}
 use Rattle.flat_out.proofs.put_aimed.Goals as goal

@@ -1,5 +1,4 @@
 -- `flat_out::put_driven` meets its contract: a refusal leaves the list, and the numbers in order are copied. Assumes nothing.
-use borrow.Author.Rules.{rules}
 use Rattle.drive.specs.Results.{velocity_list}
 use Rattle.flat_out.specs.Results.{driven_list}
 use Rattle.flat_out.proofs.Ending.{left_of_refused, written_of_accepted}

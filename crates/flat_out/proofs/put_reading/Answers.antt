@@ -1,6 +1,5 @@
 -- `flat_out::put_reading` meets its contract: a refusal leaves the list, and the numbers in order are copied. Assumes nothing.
 use mathlib.Core.Path.{◌∙◌}
-use borrow.Author.Rules.{rules}
 use Rattle.flat_out.proofs.Ending.{left_of_refused, written_of_accepted}
 use Rattle.flat_out.proofs.put_reading.Goals as goal
 

@@ -1,5 +1,4 @@
 -- `flat_out::put_sight` meets its contract: the lent part comes back as the sight. Assumes nothing.
-use borrow.Author.Rules.{rules}
 use Prim.Native.Nat.{◌+◌, ◌*◌}
 use mathlib.Core.Path.{refl, ◌∙◌}
 use Rattle.lists.proofs.Parts.{paste_is}

@@ -2,8 +2,7 @@
 use borrow.Author.Rules.{rules}
 use Prim.Native.Nat.{◌-◌}
 use native.Mathlib.Omega.{arith}
-use Rattle.table.specs.Layout as table
-use Rattle.flat_out.proofs.Sights.{Sighted, sighted_start, sighted_again, sighted_done}
+use Rattle.flat_out.proofs.Sights.{sighted_start, sighted_again, sighted_done}
 use Rattle.flat_out.proofs.put_sights.Goals as goal
 
 pub loop-i-init : goal.loop-i-init

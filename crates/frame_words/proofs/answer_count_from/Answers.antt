@@ -1,5 +1,4 @@
 -- `frame_words::answer_count_from` meets its contract: the definition, replayed as the code runs. Assumes nothing.
-use borrow.Author.Rules.{rules}
 use Rattle.scenario.specs.Decode.{number_from}
 use Rattle.frame_words.specs.Frame.{answer_count_from}
 use Rattle.frame_words.proofs.answer_count_from.Goals as goal

@@ -1,5 +1,4 @@
 -- `frame_words::body_count_from` meets its contract: the definition, replayed as the code runs. Assumes nothing.
-use borrow.Author.Rules.{rules}
 use mathlib.Core.Path.{refl}
 use Rattle.scenario.specs.Decode.{number_from}
 use Rattle.frame_words.specs.Frame.{body_count_from}

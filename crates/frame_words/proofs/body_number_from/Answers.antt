@@ -1,5 +1,4 @@
 -- `frame_words::body_number_from` meets its contract: the definition, replayed as the code runs. Assumes nothing.
-use borrow.Author.Rules.{rules}
 use Rattle.frame_words.specs.Frame.{body_number_from}
 use Rattle.frame_words.proofs.body_number_from.Goals as goal
 

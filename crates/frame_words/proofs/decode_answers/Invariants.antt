@@ -1,14 +1,10 @@
 -- `frame_words::decode_answers` meets its contract: the first i answers are in place, and the others start at a. Assumes nothing.
-use borrow.Author.Rules.{rules}
-use native.Mathlib.Omega.{arith}
 use Prim.Native.Nat.{◌+◌, ◌*◌, ◌-◌, ◌≤◌}
-use lib.ListN.{get_or}
-use Rattle.lists.proofs.Filling.{Filling, fill_none, fill_more, fill_all}
+use Rattle.lists.proofs.Filling.{Filling}
 use Rattle.grammar.specs.Layout as code
 use Rattle.scenario.specs.Layout as at
 use Rattle.scenario.specs.Format.{format}
 use Rattle.frame_words.specs.Frame.{answers_from}
-use Rattle.frame_words.proofs.Answers.{answer_words_le, answers_start_lem, answers_more, answers_end}
 use Rattle.frame_words.proofs.decode_answers.Given as goal
 
 abbrev pub invariant-loop-i : goal.invariant-loop-i

@@ -1,10 +1,8 @@
 -- `frame_words::decode_flags` meets its contract: the first i flags are in place. Assumes nothing.
-use borrow.Author.Rules.{rules}
 use native.Mathlib.Omega.{arith}
-use Prim.Native.Nat.{◌-◌, ◌≤◌}
-use Rattle.lists.specs.Counted.{listed}
+use Prim.Native.Nat.{◌-◌}
 use Rattle.lists.proofs.Turns.{listed_start, listed_more, listed_end}
-use Rattle.lists.proofs.Filling.{Filling, fill_none, fill_more, fill_all}
+use Rattle.lists.proofs.Filling.{fill_none, fill_more, fill_all}
 use Rattle.frame_words.specs.Frame.{flag_from, flags_from}
 use Rattle.frame_words.proofs.decode_flags.Goals as goal
 

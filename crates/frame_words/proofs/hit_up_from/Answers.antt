@@ -1,5 +1,4 @@
 -- `frame_words::hit_up_from` meets its contract: the definition, replayed as the code runs. Assumes nothing.
-use borrow.Author.Rules.{rules}
 use Rattle.scenario.specs.Decode.{number_from}
 use Rattle.frame_words.specs.Frame.{hit_up_from}
 use Rattle.frame_words.proofs.hit_up_from.Goals as goal

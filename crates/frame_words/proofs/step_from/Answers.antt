@@ -1,5 +1,4 @@
 -- `frame_words::step_from` meets its contract: the definition, replayed as the code runs. Assumes nothing.
-use borrow.Author.Rules.{rules}
 use Rattle.frame_words.specs.Frame.{step_from}
 use Rattle.frame_words.proofs.step_from.Goals as goal
 

@@ -1,5 +1,4 @@
 -- `ground::ground_named` meets its contract: 0 names no body, any other number the body before it in the list. Assumes nothing.
-use borrow.Author.Rules.{rules}
 use borrow.Author.Tests.{eq-eqb, ne_eqb}
 use Prim.Native.Nat.{ℕ, ◌-◌}
 use mathlib.Core.Bool.{Bool, false}

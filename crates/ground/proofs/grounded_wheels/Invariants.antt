@@ -1,13 +1,7 @@
 -- `ground::grounded_wheels` meets its contract: the count so far and the grounded wheels from i on make up the whole. Assumes nothing.
-use borrow.Author.Rules.{rules}
 use Prim.Native.Nat.{◌+◌, ◌-◌, ◌≤◌}
-use mathlib.Core.Logic.{⊎_elim}
 use mathlib.Core.Path.{◌≡◌}
-use native.Mathlib.Nat.{add-zero, sub-zero, zero-add}
-use native.Mathlib.Omega.{arith}
 use Rattle.lists.specs.Counted.{tally}
-use Rattle.lists.proofs.Picks.{told}
-use Rattle.lists.proofs.Turns.{tally_yes, tally_no, tally_end}
 use Rattle.wheel.specs.Ray.{answer_at}
 use Rattle.ground.specs.Frame.{grounded_at, grounded_wheels}
 use Rattle.ground.proofs.grounded_wheels.Given as goal

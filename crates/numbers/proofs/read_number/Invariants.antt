@@ -1,11 +1,7 @@
 -- `numbers::read_number` meets its contract: the groups that are left give what all give. Assumes nothing.
-use borrow.Author.Rules.{rules}
-use native.Mathlib.Omega.{arith}
-use Prim.Native.Nat.{◌-◌, ◌≤◌}
-use mathlib.Core.Path.{sym, ◌∙◌}
-use lib.Pow.{pow_mono}
+use Prim.Native.Nat.{◌-◌}
 use Rattle.numbers.specs.Layout.{last}
-use Rattle.numbers.proofs.Groups.{Groups, none_read, ends_short, ends_bad, ends_value, sum_fits, unit_fits, one_more, not_last}
+use Rattle.numbers.proofs.Groups.{Groups}
 use Rattle.numbers.proofs.read_number.Given as goal
 
 abbrev pub invariant-loop-k : goal.invariant-loop-k

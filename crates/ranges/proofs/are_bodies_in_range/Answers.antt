@@ -3,8 +3,6 @@ use Prim.Native.Nat.{◌-◌}
 use mathlib.Core.Bool.{true, false}
 use mathlib.Core.Path.{◌≡◌, ◌∙◌, sym}
 use native.Mathlib.Omega.{arith}
-use borrow.Author.Rules.{rules}
-use Rattle.lists.specs.Counted.{every}
 use Rattle.lists.proofs.Turns.{every_start, every_yes, every_no, every_end}
 use Rattle.ranges.specs.Ranges.{bodies_in_range, body_in_range}
 use Rattle.ranges.proofs.are_bodies_in_range.Goals as goal

@@ -1,11 +1,7 @@
 -- `ranges::are_bodies_in_range` meets its contract: the invariant is that the bodies from i on decide. Assumes nothing.
 use Prim.Native.Nat.{◌-◌}
-use mathlib.Core.Bool.{true, false}
-use mathlib.Core.Path.{◌≡◌, ◌∙◌, sym}
-use native.Mathlib.Omega.{arith}
-use borrow.Author.Rules.{rules}
+use mathlib.Core.Path.{◌≡◌}
 use Rattle.lists.specs.Counted.{every}
-use Rattle.lists.proofs.Turns.{every_start, every_yes, every_no, every_end}
 use Rattle.ranges.specs.Ranges.{bodies_in_range, body_in_range}
 use Rattle.ranges.proofs.are_bodies_in_range.Given as goal
 

@@ -1,11 +1,8 @@
 -- `ranges::are_not_negative` meets its contract: the numbers so far and those from i on decide together. Assumes nothing.
 use Prim.Native.Nat.{◌-◌}
 use native.Mathlib.Omega.{arith}
-use borrow.Author.Rules.{rules}
-use lib.ListN.{length}
 use lib.Ieee.{nan}
-use Rattle.lists.proofs.Every.{Looking, looking_start, looking_again, looking_done}
-use Rattle.ranges.specs.Ranges.{not_negative}
+use Rattle.lists.proofs.Every.{looking_start, looking_again, looking_done}
 use Rattle.ranges.proofs.are_not_negative.Goals as goal
 
 pub loop-i-init : goal.loop-i-init

@@ -1,10 +1,7 @@
 -- `ranges::are_not_negative` meets its contract: the numbers so far and those from i on decide together. Assumes nothing.
 use Prim.Native.Nat.{◌-◌}
-use native.Mathlib.Omega.{arith}
-use borrow.Author.Rules.{rules}
 use lib.ListN.{length}
-use lib.Ieee.{nan}
-use Rattle.lists.proofs.Every.{Looking, looking_start, looking_again, looking_done}
+use Rattle.lists.proofs.Every.{Looking}
 use Rattle.ranges.specs.Ranges.{not_negative}
 use Rattle.ranges.proofs.are_not_negative.Given as goal
 

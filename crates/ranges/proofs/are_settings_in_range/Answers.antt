@@ -1,5 +1,4 @@
 -- `ranges::are_settings_in_range` meets its contract: each return gives the choice that the definition makes there. Assumes nothing.
-use borrow.Author.Rules.{rules}
 use lib.Ieee.{of_bits}
 use Rattle.lists.proofs.Picks.{picks}
 use Rattle.ranges.specs.Ranges.{settings_in_range}

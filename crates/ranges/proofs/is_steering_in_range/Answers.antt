@@ -1,5 +1,4 @@
 -- `ranges::is_steering_in_range` meets its contract: the definition, replayed as the code runs. Assumes nothing.
-use borrow.Author.Rules.{rules}
 use lib.Ieee.{of_bits}
 use Rattle.ranges.specs.Ranges.{steering_in_range}
 use Rattle.ranges.proofs.is_steering_in_range.Goals as goal

@@ -1,5 +1,4 @@
 -- `ranges::is_wheel_in_range` meets its contract: each return gives the choice that the definition makes there. Assumes nothing.
-use borrow.Author.Rules.{rules}
 use Rattle.lists.proofs.Picks.{picks}
 use Rattle.ranges.specs.Ranges.{wheel_in_range}
 use Rattle.ranges.proofs.is_wheel_in_range.Goals as goal

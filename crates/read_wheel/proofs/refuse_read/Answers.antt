@@ -2,7 +2,7 @@
 use native.Mathlib.Omega.{arith}
 use Rattle.lists.specs.Refusal.{first_failed}
 use Rattle.lists.proofs.Picks.{picks, told}
-use Rattle.refusals.proofs.Says.{Shape, shape_says}
+use Rattle.refusals.proofs.Says.{shape_says}
 use Rattle.read_wheel.specs.Read.{refuse_read}
 use Rattle.read_wheel.proofs.refuse_read.Goals as goal
 

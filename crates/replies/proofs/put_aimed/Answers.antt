@@ -1,5 +1,4 @@
 -- `replies::put_aimed` meets its contract: the speed, and the sights behind it. Assumes nothing.
-use borrow.Author.Rules.{rules}
 use mathlib.Core.Path.{refl}
 use native.Mathlib.Omega.{arith}
 use Rattle.lists.proofs.Puts.{puts_join}

@@ -1,5 +1,4 @@
 -- `replies::put_all` meets its contract: the floats as far as the settled centre, and the two flags behind them. Assumes nothing.
-use borrow.Author.Rules.{rules}
 use mathlib.Core.Path.{refl}
 use native.Mathlib.Omega.{arith}
 use Rattle.lists.specs.Pick.{pick}

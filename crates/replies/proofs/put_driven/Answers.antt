@@ -1,5 +1,4 @@
 -- `replies::put_driven` meets its contract: the velocities, and the flag behind them. Assumes nothing.
-use borrow.Author.Rules.{rules}
 use mathlib.Core.Path.{refl}
 use native.Mathlib.Omega.{arith}
 use Rattle.lists.proofs.Puts.{puts_join}

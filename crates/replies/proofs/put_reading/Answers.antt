@@ -1,5 +1,4 @@
 -- `replies::put_reading` meets its contract: each extent has its own function. Assumes nothing.
-use borrow.Author.Rules.{rules}
 use Rattle.lists.specs.Pick.{pick}
 use Rattle.replies.specs.Replies.{results_of}
 use Rattle.replies.proofs.put_reading.Goals as goal

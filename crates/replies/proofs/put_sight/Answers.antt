@@ -1,5 +1,4 @@
 -- `replies::put_sight` meets its contract: `put_numbers` puts them all. Assumes nothing.
-use borrow.Author.Rules.{rules}
 use Rattle.replies.proofs.put_sight.Goals as goal
 
 pub returns : goal.returns

@@ -1,14 +1,11 @@
 -- `replies::put_sights` meets its contract: the sights of the first i wheels are put. Assumes nothing.
-use borrow.Author.Rules.{rules}
 use native.Mathlib.Omega.{arith}
-use Prim.Native.Nat.{◌+◌, ◌*◌, ◌-◌, ◌≤◌}
-use mathlib.Core.Path.{◌≡◌, refl}
-use lib.ListN.{take, drop}
-use Rattle.lines.specs.Layout.{WHEEL-RESULTS}
+use Prim.Native.Nat.{◌-◌}
+use mathlib.Core.Path.{refl}
 use Rattle.scenario.specs.Format.{format}
 use Rattle.scenario.specs.Results.{words_of}
-use Rattle.aim.specs.Sights.{sight_list, sights_list}
-use Rattle.replies.proofs.Putting.{Putting, none_put, part_put, all_put, sights_more, sights_end}
+use Rattle.aim.specs.Sights.{sight_list}
+use Rattle.replies.proofs.Putting.{none_put, part_put, all_put, sights_more, sights_end}
 use Rattle.replies.proofs.put_sights.Goals as goal
 
 pub loop-i-init : goal.loop-i-init

@@ -2,7 +2,7 @@
 use native.Mathlib.Omega.{arith}
 use Rattle.lists.specs.Refusal.{first_failed}
 use Rattle.lists.proofs.Picks.{picks, told}
-use Rattle.refusals.proofs.Says.{Shape, shape_says}
+use Rattle.refusals.proofs.Says.{shape_says}
 use Rattle.set_controls.specs.Controls.{refuse_controls}
 use Rattle.set_controls.proofs.refuse_controls.Goals as goal
 

@@ -1,12 +1,11 @@
 -- `set_controls::set_controls` meets its contract: it is refused with nothing changed, or leaves the wheel with its controls and no aimed mark. Assumes nothing.
 use mathlib.Core.Path.{refl, sym, ◌∙◌}
 use native.Mathlib.Omega.{arith}
-use borrow.Author.Rules.{rules}
 use borrow.Author.Tests.{eq-eqb, ne_eqb}
 use Rattle.lists.specs.Pick.{pick}
 use Rattle.refusals.proofs.Settled.{settled_refused, settled_done}
 use Rattle.set_controls.specs.Controls.{set_controls, unaimed}
-use Rattle.set_controls.proofs.Accepted.{ControlsTested, set_controls_says}
+use Rattle.set_controls.proofs.Accepted.{set_controls_says}
 use Rattle.set_controls.proofs.set_controls.Goals as goal
 
 pub returns-then-number-ne0 : goal.returns-then-number-ne0

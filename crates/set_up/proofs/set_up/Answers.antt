@@ -11,7 +11,7 @@ use Rattle.table.specs.Layout as at
 use Rattle.refusals.specs.After.{after}
 use Rattle.refusals.proofs.Settled.{settled_refused, settled_done}
 use Rattle.set_up.specs.SetUp.{set_up}
-use Rattle.set_up.proofs.Accepted.{SetUpTested, set_up_says}
+use Rattle.set_up.proofs.Accepted.{set_up_says}
 use Rattle.set_up.proofs.set_up.Goals as goal
 
 -- the four whole numbers, written one by one

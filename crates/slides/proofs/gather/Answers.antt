@@ -1,9 +1,7 @@
 -- `slides::gather` meets its contract: a turn for each wheel. Assumes nothing.
-use borrow.Author.Rules.{rules}
 use Prim.Native.Nat.{◌-◌}
 use native.Mathlib.Omega.{arith}
-use Rattle.lists.proofs.Turns.{Turning, turning_start, turning_again, turning_done}
-use Rattle.wheel.specs.Parts.{friction_in}
+use Rattle.lists.proofs.Turns.{turning_start, turning_again, turning_done}
 use Rattle.passes.specs.Passes.{given, each_gives}
 use Rattle.slides.specs.Slides.{gathered}
 use Rattle.slides.proofs.gather.Goals as goal

@@ -11,7 +11,7 @@ use Rattle.std.proofs.lemmas.List.{set-get_or}
 use Rattle.tyre.specs.declared.Friction.{Friction}
 use Rattle.tyre.specs.Grip.{rescaled_of, rescaled_by}
 use Rattle.slides.specs.Slides.{none}
-use Rattle.slides.proofs.Each.{up_to, up_to_length, up_to_set, up_to_all}
+use Rattle.slides.proofs.Each.{up_to, up_to_set, up_to_all}
 use Rattle.slides.proofs.rescale.Goals as goal
 use Rattle.slides.proofs.rescale.Goals.{then-s, else-s}
 
@@ -48,7 +48,7 @@ pub loop-i-preserved : goal.loop-i-preserved
 loop-i-preserved c = elim c.if-s.branch [
   | then-s w ↦ turned _ _ _ c.loop-i.invariant _ w.slides-is w.if-s.true
   | else-s w ↦ left _ _ _ c.loop-i.invariant _ w.slides-is w.if-s.false
-  ]
+]
 
 pub returns : goal.returns
 returns c =

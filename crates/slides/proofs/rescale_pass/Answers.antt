@@ -1,5 +1,4 @@
 -- `slides::rescale_pass` meets its contract: the records are gathered, rescaled and put back. Assumes nothing.
-use borrow.Author.Rules.{rules}
 use mathlib.Core.List.{List}
 use mathlib.Core.Path.{ap, ◌∙◌}
 use lib.Ieee.{binary32}

@@ -3,7 +3,7 @@ use borrow.Author.Rules.{rules}
 use Prim.Native.Nat.{◌-◌}
 use mathlib.Core.Path.{refl}
 use native.Mathlib.Omega.{arith}
-use Rattle.passes.proofs.Laws.{changed_of_put, Passing, passing_start, passing_again, passing_done}
+use Rattle.passes.proofs.Laws.{changed_of_put, passing_start, passing_again, passing_done}
 use Rattle.slides.specs.Slides.{slide_over, scattered}
 use Rattle.slides.proofs.scatter.Goals as goal
 

@@ -1,5 +1,4 @@
 -- `vector::row_dot` meets its contract: the definition, replayed as the code runs. Assumes nothing.
-use borrow.Author.Rules.{rules}
 use Rattle.vector.specs.Arithmetic.{row_dot}
 use Rattle.vector.proofs.row_dot.Goals as goal
 

@@ -1,5 +1,4 @@
 -- `vector::rows_dot` meets its contract: the definition, replayed as the code runs. Assumes nothing.
-use borrow.Author.Rules.{rules}
 use Rattle.vector.specs.Arithmetic.{rows_dot}
 use Rattle.vector.proofs.rows_dot.Goals as goal
 

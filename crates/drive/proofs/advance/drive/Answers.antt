@@ -1,10 +1,8 @@
 -- `drive::advance::drive` meets its contract: refused early, refused by the step, or done. Assumes nothing.
 use native.Mathlib.Omega.{arith}
 use mathlib.Core.Path.{sym, ◌∙◌}
-use borrow.Author.Rules.{rules}
-use Rattle.wheel.specs.Ray.{answer_at}
 use Rattle.drive.specs.Drive.{drive_of}
-use Rattle.early.proofs.Accepted.{FrameTested, early_tests_say}
+use Rattle.early.proofs.Accepted.{early_tests_say}
 use Rattle.drive.proofs.Tries.{drive_accepted, drive_refused_late, drive_refused}
 use Rattle.drive.proofs.advance.drive.Goals as goal
 

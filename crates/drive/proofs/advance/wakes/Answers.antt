@@ -4,9 +4,7 @@ use mathlib.Core.Bool.{true, false, not}
 use mathlib.Core.List.{List}
 use mathlib.Core.Path.{◌≡◌, ◌∙◌, sym, ap}
 use native.Mathlib.Omega.{arith}
-use borrow.Author.Rules.{rules}
 use lib.Ieee.{Float, binary32, lt, of_bits}
-use Rattle.lists.specs.Counted.{every}
 use Rattle.lists.proofs.Turns.{every_start, every_yes, every_no, every_end}
 use Rattle.wheel.specs.declared.Wheel.{Wheel}
 use Rattle.table.specs.Rows.{wheel_at}

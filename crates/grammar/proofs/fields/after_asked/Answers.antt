@@ -1,5 +1,4 @@
 -- `grammar::fields::after_asked` meets its contract: the definition, replayed as the code runs. Assumes nothing.
-use borrow.Author.Rules.{rules}
 use Rattle.grammar.specs.Grammar.{after_asked}
 use Rattle.grammar.proofs.fields.after_asked.Goals as goal
 

@@ -1,5 +1,4 @@
 -- `grammar::fields::answers` meets its contract: the definition, replayed as the code runs. Assumes nothing.
-use borrow.Author.Rules.{rules}
 use Rattle.lists.proofs.Picks.{picks}
 use Rattle.grammar.specs.Grammar.{answers}
 use Rattle.grammar.proofs.fields.answers.Goals as goal

@@ -1,5 +1,4 @@
 -- `grammar::fields::bodies` meets its contract: the definition, replayed as the code runs. Assumes nothing.
-use borrow.Author.Rules.{rules}
 use Rattle.lists.proofs.Picks.{picks}
 use Rattle.grammar.specs.Grammar.{bodies}
 use Rattle.grammar.proofs.fields.bodies.Goals as goal

@@ -1,5 +1,4 @@
 -- `grammar::fields::follow` meets its contract: the definition, replayed as the code runs. Assumes nothing.
-use borrow.Author.Rules.{rules}
 use Rattle.grammar.specs.Grammar.{follow}
 use Rattle.grammar.proofs.fields.follow.Goals as goal
 

@@ -7,7 +7,6 @@ use Rattle.grammar.specs.Grammar.{verdict_at}
 use Rattle.grammar.proofs.Places.{verdict_float, verdict_mark}
 use Rattle.grammar.proofs.fields.verdict.Goals as goal
 
-
 -- the arm of every mark but the last two
 more_at : (m : Mark) → (m ≡ End → ⊥) → (m ≡ Bad → ⊥) → verdict_at m ≡ More
 unfolding verdict_at

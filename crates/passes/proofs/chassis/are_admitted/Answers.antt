@@ -1,16 +1,13 @@
 -- `passes::chassis::are_admitted` meets its contract: the wheels from i on decide. Assumes nothing.
 use borrow.Author.Rules.{rules}
-use Prim.Native.Nat.{◌-◌, ◌≤◌}
-use mathlib.Core.Path.{◌≡◌, sym, ◌∙◌}
+use Prim.Native.Nat.{◌-◌}
+use mathlib.Core.Path.{sym, ◌∙◌}
 use native.Mathlib.Nat.{sub-zero}
 use native.Mathlib.Omega.{arith}
-use lib.Ieee.{binary32}
-use Rattle.lists.specs.Counted.{every}
 use Rattle.lists.proofs.Picks.{told}
 use Rattle.lists.proofs.Turns.{every_yes, every_no, every_end}
 use Rattle.ground.specs.Frame.{grounded_at}
-use Rattle.wheel.specs.Ray.{answer_at}
-use Rattle.passes.specs.Passes.{stored, admitted_at, demands_admitted}
+use Rattle.passes.specs.Passes.{admitted_at, demands_admitted}
 use Rattle.passes.proofs.chassis.are_admitted.Goals as goal
 
 pub loop-i-init : goal.loop-i-init

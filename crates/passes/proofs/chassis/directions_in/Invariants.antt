@@ -1,11 +1,9 @@
 -- `passes::chassis::directions_in` meets its contract: a turn for each wheel. Assumes nothing.
-use borrow.Author.Rules.{rules}
 use Prim.Native.Nat.{◌-◌}
-use native.Mathlib.Omega.{arith}
 use lib.Ieee.{binary32}
-use Rattle.lists.proofs.Turns.{Turning, turning_start, turning_again, turning_done}
+use Rattle.lists.proofs.Turns.{Turning}
 use Rattle.road.specs.Contact.{directions_of}
-use Rattle.passes.specs.Passes.{given, each_gives, directions_in}
+use Rattle.passes.specs.Passes.{given}
 use Rattle.passes.proofs.chassis.directions_in.Given as goal
 
 abbrev pub invariant-loop-i : goal.invariant-loop-i

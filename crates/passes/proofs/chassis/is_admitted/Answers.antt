@@ -1,5 +1,4 @@
 -- `passes::chassis::is_admitted` meets its contract: the tests of refusal 7, in the code's order. Assumes nothing.
-use borrow.Author.Rules.{rules}
 use lib.Ieee.{of_bits}
 use Rattle.lists.proofs.Picks.{picks}
 use Rattle.passes.specs.Passes.{admits}

@@ -1,5 +1,4 @@
 -- `passes::chassis::is_admitted_at` meets its contract: the test of a grounded wheel. Assumes nothing.
-use borrow.Author.Rules.{rules}
 use mathlib.Core.Path.{refl}
 use Rattle.lists.proofs.Picks.{pick_yes, pick_no}
 use Rattle.passes.proofs.chassis.is_admitted_at.Goals as goal

@@ -1,11 +1,8 @@
 -- `passes::chassis::push_pass` meets its contract: a turn for each wheel. Assumes nothing.
-use borrow.Author.Rules.{rules}
 use Prim.Native.Nat.{◌-◌}
-use native.Mathlib.Omega.{arith}
 use lib.Ieee.{binary32}
-use Rattle.passes.specs.Passes.{directions_at, push_at, pushes}
-use Rattle.lists.proofs.Turns.{turning_start}
-use Rattle.passes.proofs.Laws.{Moving, moving_again, moving_done}
+use Rattle.passes.specs.Passes.{directions_at, push_at}
+use Rattle.passes.proofs.Laws.{Moving}
 use Rattle.passes.proofs.chassis.push_pass.Given as goal
 
 abbrev pub invariant-loop-i : goal.invariant-loop-i

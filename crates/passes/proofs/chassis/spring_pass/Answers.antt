@@ -1,11 +1,9 @@
 -- `passes::chassis::spring_pass` meets its contract: a turn for each wheel. Assumes nothing.
-use borrow.Author.Rules.{rules}
 use Prim.Native.Nat.{◌-◌}
 use native.Mathlib.Omega.{arith}
-use lib.Ieee.{binary32}
-use Rattle.passes.specs.Passes.{stored, spring_at, springs}
+use Rattle.passes.specs.Passes.{spring_at, springs}
 use Rattle.lists.proofs.Turns.{turning_start}
-use Rattle.passes.proofs.Laws.{Moving, moving_again, moving_done}
+use Rattle.passes.proofs.Laws.{moving_again, moving_done}
 use Rattle.passes.proofs.chassis.spring_pass.Goals as goal
 
 pub loop-i-init : goal.loop-i-init

@@ -2,10 +2,8 @@
 use borrow.Author.Rules.{rules}
 use Prim.Native.Nat.{◌-◌}
 use native.Mathlib.Omega.{arith}
-use lib.Ieee.{binary32}
-use Rattle.wheel.specs.Ray.{answer_at}
-use Rattle.passes.specs.Passes.{stored, changed, cast_at, casts}
-use Rattle.passes.proofs.Laws.{Passing, passing_start, passing_again, passing_done}
+use Rattle.passes.specs.Passes.{changed, cast_at, casts}
+use Rattle.passes.proofs.Laws.{passing_start, passing_again, passing_done}
 use Rattle.passes.proofs.rows.cast_pass.Goals as goal
 
 pub loop-i-init : goal.loop-i-init

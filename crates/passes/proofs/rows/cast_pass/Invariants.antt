@@ -1,11 +1,9 @@
 -- `passes::rows::cast_pass` meets its contract: a turn for each wheel. Assumes nothing.
-use borrow.Author.Rules.{rules}
 use Prim.Native.Nat.{◌-◌}
-use native.Mathlib.Omega.{arith}
 use lib.Ieee.{binary32}
 use Rattle.wheel.specs.Ray.{answer_at}
-use Rattle.passes.specs.Passes.{stored, changed, cast_at, casts}
-use Rattle.passes.proofs.Laws.{Passing, passing_start, passing_again, passing_done}
+use Rattle.passes.specs.Passes.{stored, cast_at}
+use Rattle.passes.proofs.Laws.{Passing}
 use Rattle.passes.proofs.rows.cast_pass.Given as goal
 
 abbrev pub invariant-loop-i : goal.invariant-loop-i

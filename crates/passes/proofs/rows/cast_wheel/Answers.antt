@@ -1,5 +1,4 @@
 -- `passes::rows::cast_wheel` meets its contract: the wheel is read, and what changes of it is put. Assumes nothing.
-use borrow.Author.Rules.{rules}
 use Rattle.passes.proofs.OneWheel.{cast_put}
 use Rattle.passes.proofs.rows.cast_wheel.Goals as goal
 

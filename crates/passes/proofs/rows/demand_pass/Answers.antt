@@ -2,11 +2,8 @@
 use borrow.Author.Rules.{rules}
 use Prim.Native.Nat.{◌-◌}
 use native.Mathlib.Omega.{arith}
-use lib.Ieee.{binary32}
-use Rattle.wheel.specs.Ray.{answer_at}
-use Rattle.ground.specs.Frame.{frame}
-use Rattle.passes.specs.Passes.{stored, changed, directions_at, demand_at, demands}
-use Rattle.passes.proofs.Laws.{Passing, passing_start, passing_again, passing_done}
+use Rattle.passes.specs.Passes.{changed, demand_at, demands}
+use Rattle.passes.proofs.Laws.{passing_start, passing_again, passing_done}
 use Rattle.passes.proofs.rows.demand_pass.Goals as goal
 
 pub loop-i-init : goal.loop-i-init

@@ -1,12 +1,9 @@
 -- `passes::rows::spin_pass` meets its contract: a turn for each wheel. Assumes nothing.
-use borrow.Author.Rules.{rules}
 use Prim.Native.Nat.{◌-◌}
-use native.Mathlib.Omega.{arith}
 use lib.Ieee.{binary32}
 use Rattle.wheel.specs.Ray.{answer_at}
-use Rattle.ground.specs.Frame.{grounded_at}
-use Rattle.passes.specs.Passes.{changed, spin_at, spins}
-use Rattle.passes.proofs.Laws.{Passing, passing_start, passing_again, passing_done}
+use Rattle.passes.specs.Passes.{spin_at}
+use Rattle.passes.proofs.Laws.{Passing}
 use Rattle.passes.proofs.rows.spin_pass.Given as goal
 
 abbrev pub invariant-loop-i : goal.invariant-loop-i

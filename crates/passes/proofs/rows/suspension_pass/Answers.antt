@@ -2,11 +2,9 @@
 use borrow.Author.Rules.{rules}
 use Prim.Native.Nat.{◌-◌}
 use native.Mathlib.Omega.{arith}
-use lib.Ieee.{binary32}
-use Rattle.wheel.specs.Ray.{answer_at}
 use Rattle.ground.specs.Frame.{grounded_at}
-use Rattle.passes.specs.Passes.{stored, changed, suspend_at, suspensions}
-use Rattle.passes.proofs.Laws.{Passing, passing_start, passing_again, passing_done}
+use Rattle.passes.specs.Passes.{changed, suspend_at, suspensions}
+use Rattle.passes.proofs.Laws.{passing_start, passing_again, passing_done}
 use Rattle.passes.proofs.rows.suspension_pass.Goals as goal
 
 pub loop-i-init : goal.loop-i-init

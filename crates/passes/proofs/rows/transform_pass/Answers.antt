@@ -2,9 +2,8 @@
 use borrow.Author.Rules.{rules}
 use Prim.Native.Nat.{◌-◌}
 use native.Mathlib.Omega.{arith}
-use lib.Ieee.{binary32}
-use Rattle.passes.specs.Passes.{transform_at, transforms}
-use Rattle.passes.proofs.Laws.{Passing, passing_start, passing_again, passing_done}
+use Rattle.passes.specs.Passes.{transforms}
+use Rattle.passes.proofs.Laws.{passing_start, passing_again, passing_done}
 use Rattle.passes.proofs.rows.transform_pass.Goals as goal
 
 pub loop-i-init : goal.loop-i-init

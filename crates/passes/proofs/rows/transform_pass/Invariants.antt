@@ -1,10 +1,8 @@
 -- `passes::rows::transform_pass` meets its contract: a turn for each wheel. Assumes nothing.
-use borrow.Author.Rules.{rules}
 use Prim.Native.Nat.{◌-◌}
-use native.Mathlib.Omega.{arith}
 use lib.Ieee.{binary32}
-use Rattle.passes.specs.Passes.{transform_at, transforms}
-use Rattle.passes.proofs.Laws.{Passing, passing_start, passing_again, passing_done}
+use Rattle.passes.specs.Passes.{transform_at}
+use Rattle.passes.proofs.Laws.{Passing}
 use Rattle.passes.proofs.rows.transform_pass.Given as goal
 
 abbrev pub invariant-loop-i : goal.invariant-loop-i

@@ -1,5 +1,4 @@
 -- `passes::rows::transform_wheel` meets its contract: the wheel is read, changed and put. Assumes nothing.
-use borrow.Author.Rules.{rules}
 use Rattle.passes.specs.Passes.{transform_at}
 use Rattle.passes.proofs.Laws.{changed_of_put}
 use Rattle.passes.proofs.rows.transform_wheel.Goals as goal

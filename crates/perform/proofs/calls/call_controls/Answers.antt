@@ -1,5 +1,4 @@
 -- `perform::calls::call_controls` meets its contract: the call, with the wheel of the words. Assumes nothing.
-use borrow.Author.Rules.{rules}
 use Rattle.perform.proofs.calls.call_controls.Goals as goal
 
 pub returns : goal.returns

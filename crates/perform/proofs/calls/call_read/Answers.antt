@@ -1,5 +1,4 @@
 -- `perform::calls::call_read` meets its contract: refused, or its results are put. Assumes nothing.
-use borrow.Author.Rules.{rules}
 use Rattle.perform.proofs.Told.{told_refused, told_accepted}
 use Rattle.perform.proofs.calls.call_read.Goals as goal
 

@@ -1,15 +1,10 @@
 -- `perform::frames::call_aim` meets its contract: refused, or its results are put. Assumes nothing.
 use borrow.Author.Rules.{rules}
 use native.Mathlib.Omega.{arith}
-use Prim.Native.Nat.{◌≤◌}
-use mathlib.Core.Path.{◌≡◌}
 use Rattle.table.specs.Layout as at
 use Rattle.refusals.specs.Shape.{count_of}
-use Rattle.refusals.specs.After.{after}
-use Rattle.aim.specs.Aim.{aim_of}
 use Rattle.aim.proofs.Accepted.{accepted_aim_says}
 use Rattle.scenario.specs.Format.{format}
-use Rattle.scenario.specs.Decode.{chassis_from}
 use Rattle.replies.specs.Replies.{aim_results}
 use Rattle.perform.proofs.Told.{told_refused, told_accepted}
 use Rattle.perform.proofs.frames.call_aim.Goals as goal

@@ -1,5 +1,4 @@
 -- `perform::frames::call_drive` meets its contract: refused, or its results are put. Assumes nothing.
-use borrow.Author.Rules.{rules}
 use Rattle.scenario.specs.Format.{format}
 use Rattle.replies.specs.Replies.{drive_results}
 use Rattle.perform.proofs.Told.{told_refused, told_accepted}

@@ -1,6 +1,5 @@
 -- `real::root::positive` meets its contract: `Cases.antt` at binary32. Assumes nothing.
 use native.Mathlib.Omega.{arith}
-use borrow.Author.Rules.{rules}
 use lib.Ieee.{binary32}
 use Rattle.real.proofs.root.Cases.{normal_asks, of_normal, places_fit, subnormal_asks, of_subnormal}
 use Rattle.real.proofs.root.positive.Goals as goal

@@ -1,7 +1,6 @@
 -- `real::root::rounded` meets its contract: `Rounding.antt` at binary32. Assumes nothing.
 use Prim.Native.Nat.{◌+◌, ◌/◌}
 use native.Mathlib.Omega.{arith}
-use borrow.Author.Rules.{rules}
 use lib.Bits.{mask_lt}
 use lib.Ieee.{binary32}
 use Rattle.real.proofs.root.Rounding.{low_bit, handed_lt, root_fits, no_nan, is_nearest}

@@ -1,8 +1,6 @@
 -- `real::root::whole_root` meets its contract: `Turns.antt` at a word of 32 bits. The measure is the place. Assumes nothing.
 use Prim.Native.Nat.{◌*◌, ◌^◌}
-use native.Mathlib.Omega.{arith}
-use lib.Dec.{lit≤}
-use Rattle.real.proofs.root.Turns.{Inv, begins, taken_le, twice_le, turn, at_end}
+use Rattle.real.proofs.root.Turns.{Inv}
 use Rattle.real.proofs.root.whole_root.Given as goal
 
 abbrev pub invariant-loop-place : goal.invariant-loop-place

@@ -1,5 +1,4 @@
 -- `refusals::answers::holds_of` meets its contract: the definition, replayed as the code runs. Assumes nothing.
-use borrow.Author.Rules.{rules}
 use Rattle.refusals.specs.AnswerTests.{holds_of}
 use Rattle.refusals.proofs.answers.holds_of.Goals as goal
 

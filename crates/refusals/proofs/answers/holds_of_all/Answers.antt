@@ -1,16 +1,8 @@
 -- `refusals::answers::holds_of_all` meets its contract: the invariant is that the answers from i on decide. Assumes nothing.
-use Prim.Native.Nat.{ℕ, ◌-◌}
-use mathlib.Core.Bool.{Bool}
-use mathlib.Core.List.{List}
-use mathlib.Core.Path.{◌≡◌, ◌∙◌, sym}
+use Prim.Native.Nat.{◌-◌}
+use mathlib.Core.Path.{◌∙◌, sym}
 use native.Mathlib.Omega.{arith}
-use borrow.Author.Rules.{rules}
-use lib.Ieee.{binary32}
-use Rattle.lists.specs.Counted.{every}
 use Rattle.lists.proofs.Turns.{every_start, every_yes, every_no, every_end}
-use Rattle.wheel.specs.declared.RayAnswer.{RayAnswer}
-use Rattle.wheel.specs.Ray.{answer_at}
-use Rattle.refusals.specs.declared.AnswerTest.{AnswerTest}
 use Rattle.refusals.specs.AnswerTests.{holds_of}
 use Rattle.refusals.proofs.answers.holds_of_all.Invariants.{holds_at}
 use Rattle.refusals.proofs.answers.holds_of_all.Goals as goal

@@ -2,12 +2,9 @@
 use Prim.Native.Nat.{ℕ, ◌-◌}
 use mathlib.Core.Bool.{Bool}
 use mathlib.Core.List.{List}
-use mathlib.Core.Path.{◌≡◌, ◌∙◌, sym}
-use native.Mathlib.Omega.{arith}
-use borrow.Author.Rules.{rules}
+use mathlib.Core.Path.{◌≡◌}
 use lib.Ieee.{binary32}
 use Rattle.lists.specs.Counted.{every}
-use Rattle.lists.proofs.Turns.{every_start, every_yes, every_no, every_end}
 use Rattle.wheel.specs.declared.RayAnswer.{RayAnswer}
 use Rattle.wheel.specs.Ray.{answer_at}
 use Rattle.refusals.specs.declared.AnswerTest.{AnswerTest}

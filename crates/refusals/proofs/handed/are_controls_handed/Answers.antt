@@ -1,5 +1,4 @@
 -- `refusals::handed::are_controls_handed` meets its contract: the numbers in order are all tested. Assumes nothing.
-use borrow.Author.Rules.{rules}
 use lib.Ieee.{of_bits}
 use Rattle.refusals.specs.Handed.{controls_handed}
 use Rattle.refusals.proofs.handed.are_controls_handed.Goals as goal

@@ -1,5 +1,4 @@
 -- `refusals::handed::are_normals_handed` meets its contract: the definition, replayed as the code runs. Assumes nothing.
-use borrow.Author.Rules.{rules}
 use Rattle.lists.proofs.Picks.{picks}
 use Rattle.refusals.specs.Handed.{normals_handed}
 use Rattle.refusals.proofs.handed.are_normals_handed.Goals as goal

@@ -1,6 +1,5 @@
 -- `refusals::handed::are_settings_handed` meets its contract: the numbers in order are all tested. Assumes nothing.
 use mathlib.Core.Path.{◌∙◌, ap}
-use borrow.Author.Rules.{rules}
 use lib.Ieee.{of_bits}
 use Rattle.table.specs.Bounds.{all_within, HANDED}
 use Rattle.refusals.specs.Handed.{settings_handed}

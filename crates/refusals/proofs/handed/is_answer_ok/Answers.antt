@@ -1,5 +1,4 @@
 -- `refusals::handed::is_answer_ok` meets its contract: the definition, replayed as the code runs. Assumes nothing.
-use borrow.Author.Rules.{rules}
 use Rattle.refusals.specs.Handed.{answer_ok}
 use Rattle.refusals.proofs.handed.is_answer_ok.Goals as goal
 

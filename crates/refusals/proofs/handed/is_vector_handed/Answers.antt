@@ -1,5 +1,4 @@
 -- `refusals::handed::is_vector_handed` meets its contract: the definition, replayed as the code runs. Assumes nothing.
-use borrow.Author.Rules.{rules}
 use lib.Ieee.{of_bits}
 use Rattle.refusals.specs.Handed.{vector_handed}
 use Rattle.refusals.proofs.handed.is_vector_handed.Goals as goal

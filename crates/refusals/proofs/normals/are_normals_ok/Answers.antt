@@ -1,5 +1,4 @@
 -- `refusals::normals::are_normals_ok` meets its contract: the definition, replayed as the code runs. Assumes nothing.
-use borrow.Author.Rules.{rules}
 use Rattle.lists.proofs.Picks.{picks}
 use Rattle.refusals.specs.Normals.{normals_ok}
 use Rattle.refusals.proofs.normals.are_normals_ok.Goals as goal

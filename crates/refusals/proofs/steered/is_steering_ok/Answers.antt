@@ -1,5 +1,4 @@
 -- `refusals::steered::is_steering_ok` meets its contract: the definition, replayed as the code runs. Assumes nothing.
-use borrow.Author.Rules.{rules}
 use Rattle.refusals.specs.Steered.{steering_ok}
 use Rattle.refusals.proofs.steered.is_steering_ok.Goals as goal
 

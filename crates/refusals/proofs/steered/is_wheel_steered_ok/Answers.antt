@@ -1,5 +1,4 @@
 -- `refusals::steered::is_wheel_steered_ok` meets its contract: the definition, replayed as the code runs. Assumes nothing.
-use borrow.Author.Rules.{rules}
 use Rattle.refusals.specs.Steered.{wheel_steered_ok}
 use Rattle.refusals.proofs.steered.is_wheel_steered_ok.Goals as goal
 

@@ -1,9 +1,7 @@
 -- `refusals::wheels::holds_of_wheels` meets its contract: the invariant is that the wheels from i on decide. Assumes nothing.
 use Prim.Native.Nat.{◌-◌}
-use mathlib.Core.Path.{◌≡◌, ◌∙◌, sym}
+use mathlib.Core.Path.{◌∙◌, sym}
 use native.Mathlib.Omega.{arith}
-use borrow.Author.Rules.{rules}
-use Rattle.lists.specs.Counted.{every}
 use Rattle.lists.proofs.Turns.{every_start, every_yes, every_no, every_end}
 use lib.Ieee.{binary32}
 use Rattle.refusals.specs.WheelTests.{wheel_holds}

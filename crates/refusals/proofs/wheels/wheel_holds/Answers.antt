@@ -1,5 +1,4 @@
 -- `refusals::wheels::wheel_holds` meets its contract: the definition, replayed as the code runs. Assumes nothing.
-use borrow.Author.Rules.{rules}
 use Rattle.refusals.specs.WheelTests.{wheel_holds}
 use Rattle.refusals.proofs.wheels.wheel_holds.Goals as goal
 

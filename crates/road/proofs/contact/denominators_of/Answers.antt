@@ -1,5 +1,4 @@
 -- `road::contact::denominators_of` meets its contract: the definition, replayed as the code runs. Assumes nothing.
-use borrow.Author.Rules.{rules}
 use Rattle.road.specs.Contact.{denominators_of}
 use Rattle.road.proofs.contact.denominators_of.Goals as goal
 

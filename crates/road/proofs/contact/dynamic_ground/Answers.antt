@@ -1,5 +1,4 @@
 -- `road::contact::dynamic_ground` meets its contract: the definition, replayed as the code runs. Assumes nothing.
-use borrow.Author.Rules.{rules}
 use Rattle.road.specs.Contact.{dynamic_ground}
 use Rattle.road.proofs.contact.dynamic_ground.Goals as goal
 

@@ -1,5 +1,4 @@
 -- `road::contact::jacobian_diagonal` meets its contract: the definition, replayed as the code runs. Assumes nothing.
-use borrow.Author.Rules.{rules}
 use Rattle.road.specs.Contact.{jacobian_diagonal}
 use Rattle.road.proofs.contact.jacobian_diagonal.Goals as goal
 

@@ -1,5 +1,4 @@
 -- `road::contact::relative_velocity` meets its contract: the definition, replayed as the code runs. Assumes nothing.
-use borrow.Author.Rules.{rules}
 use Rattle.road.specs.Contact.{relative_velocity}
 use Rattle.road.proofs.contact.relative_velocity.Goals as goal
 

@@ -1,5 +1,4 @@
 -- `scenario::decode::chassis_from` meets its contract: the definition, replayed as the code runs. Assumes nothing.
-use borrow.Author.Rules.{rules}
 use Rattle.scenario.specs.Decode.{chassis_from}
 use Rattle.scenario.proofs.decode.chassis_from.Goals as goal
 

@@ -1,5 +1,4 @@
 -- `scenario::decode::controls_from` meets its contract: the definition, replayed as the code runs. Assumes nothing.
-use borrow.Author.Rules.{rules}
 use Rattle.scenario.specs.Decode.{controls_from}
 use Rattle.scenario.proofs.decode.controls_from.Goals as goal
 

@@ -1,5 +1,4 @@
 -- `scenario::decode::float_from` meets its contract: the definition, replayed as the code runs. Assumes nothing.
-use borrow.Author.Rules.{rules}
 use Rattle.scenario.specs.Decode.{float_from}
 use Rattle.scenario.proofs.decode.float_from.Goals as goal
 

@@ -1,5 +1,4 @@
 -- `scenario::decode::rolled_from` meets its contract: the definition, replayed as the code runs. Assumes nothing.
-use borrow.Author.Rules.{rules}
 use Rattle.scenario.specs.Decode.{rolled_from}
 use Rattle.scenario.proofs.decode.rolled_from.Goals as goal
 

@@ -1,5 +1,4 @@
 -- `scenario::decode::settings_from` meets its contract: the definition, replayed as the code runs. Assumes nothing.
-use borrow.Author.Rules.{rules}
 use lib.Ieee.{of_bits}
 use Rattle.real.specs.Number.{ratio}
 use Rattle.scenario.specs.Decode.{settings_from}

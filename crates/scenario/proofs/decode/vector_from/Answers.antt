@@ -1,5 +1,4 @@
 -- `scenario::decode::vector_from` meets its contract: the definition, replayed as the code runs. Assumes nothing.
-use borrow.Author.Rules.{rules}
 use Rattle.scenario.specs.Decode.{vector_from}
 use Rattle.scenario.proofs.decode.vector_from.Goals as goal
 

@@ -1,5 +1,4 @@
 -- `scenario::decode::wheel_from` meets its contract: the definition, replayed as the code runs. Assumes nothing.
-use borrow.Author.Rules.{rules}
 use mathlib.Core.Path.{refl}
 use Rattle.scenario.specs.Decode.{number_from, wheel_from}
 use Rattle.scenario.proofs.decode.wheel_from.Goals as goal

@@ -1,5 +1,4 @@
 -- `scenario::results::put_flag` meets its contract: one word is stored. Assumes nothing.
-use borrow.Author.Rules.{rules}
 use native.Mathlib.Omega.{arith}
 use Rattle.lists.proofs.Parts.{set_is_paste}
 use Rattle.scenario.specs.Results.{flag_word}

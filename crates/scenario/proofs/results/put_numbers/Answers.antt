@@ -1,5 +1,4 @@
 -- `scenario::results::put_numbers` meets its contract: the lent part comes back as the patterns. Assumes nothing.
-use borrow.Author.Rules.{rules}
 use mathlib.Core.Path.{sym}
 use lib.ListN.{length}
 use Rattle.lists.proofs.Parts.{paste_is}

@@ -1,11 +1,10 @@
 -- `scenario::results::write_numbers` meets its contract: the first i patterns are in place. Assumes nothing.
 use borrow.Author.Rules.{rules}
 use native.Mathlib.Omega.{arith}
-use Prim.Native.Nat.{◌-◌, ◌≤◌}
+use Prim.Native.Nat.{◌-◌}
 use mathlib.Core.Path.{refl, ◌∙◌}
-use lib.ListN.{length, drop}
 use Rattle.lists.proofs.Parts.{paste_all}
-use Rattle.lists.proofs.Filling.{Filling, fill_none, fill_more, fill_all}
+use Rattle.lists.proofs.Filling.{fill_none, fill_more, fill_all}
 use Rattle.scenario.specs.Format.{format}
 use Rattle.scenario.specs.Results.{words_of}
 use Rattle.scenario.proofs.Words.{length_words, words_more, words_end}

@@ -1,9 +1,7 @@
 -- `session::runs::run_codes` meets its contract: what is left to run gives what the whole gives. Assumes nothing.
-use borrow.Author.Rules.{rules}
 use native.Mathlib.Omega.{arith}
-use Prim.Native.Nat.{◌+◌, ◌-◌, ◌≤◌, ◌<◌}
-use lib.ListN.{length}
-use Rattle.session.proofs.Running.{Running, none_run, stands_full, next_within, stands_ended, stands_more, one_run}
+use Prim.Native.Nat.{◌-◌}
+use Rattle.session.proofs.Running.{none_run, stands_full, next_within, stands_ended, stands_more, one_run}
 use Rattle.session.proofs.runs.run_codes.Goals as goal
 
 pub loop-out-init : goal.loop-out-init

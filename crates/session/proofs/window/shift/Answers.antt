@@ -1,8 +1,7 @@
 -- `session::window::shift` meets its contract: no byte is written over before it is moved. Assumes nothing.
-use borrow.Author.Rules.{rules}
 use native.Mathlib.Omega.{arith}
 use Prim.Native.Nat.{◌-◌}
-use Rattle.session.proofs.Shifting.{Shifting, none_shifted, one_shifted, all_shifted}
+use Rattle.session.proofs.Shifting.{none_shifted, one_shifted, all_shifted}
 use Rattle.session.proofs.window.shift.Goals as goal
 
 pub loop-i-init : goal.loop-i-init

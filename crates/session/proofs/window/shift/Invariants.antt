@@ -1,8 +1,6 @@
 -- `session::window::shift` meets its contract: no byte is written over before it is moved. Assumes nothing.
-use borrow.Author.Rules.{rules}
-use native.Mathlib.Omega.{arith}
 use Prim.Native.Nat.{◌-◌}
-use Rattle.session.proofs.Shifting.{Shifting, none_shifted, one_shifted, all_shifted}
+use Rattle.session.proofs.Shifting.{Shifting}
 use Rattle.session.proofs.window.shift.Given as goal
 
 abbrev pub invariant-loop-i : goal.invariant-loop-i

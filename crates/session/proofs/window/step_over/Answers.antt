@@ -1,5 +1,4 @@
 -- `session::window::step_over` meets its contract: what the run leaves is moved. Assumes nothing.
-use borrow.Author.Rules.{rules}
 use mathlib.Core.Path.{sym}
 use lib.Seq.{length-take-le}
 use Rattle.session.proofs.Stepping.{took_within, step_made}

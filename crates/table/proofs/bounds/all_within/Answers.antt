@@ -1,11 +1,8 @@
 -- `table::bounds::all_within` meets its contract: the numbers so far and those from i on decide together. Assumes nothing.
 use Prim.Native.Nat.{◌-◌}
 use native.Mathlib.Omega.{arith}
-use borrow.Author.Rules.{rules}
-use lib.ListN.{length}
 use lib.Ieee.{nan}
-use Rattle.lists.proofs.Every.{Looking, looking_start, looking_again, looking_done}
-use Rattle.real.specs.Scalar.{within}
+use Rattle.lists.proofs.Every.{looking_start, looking_again, looking_done}
 use Rattle.table.specs.Bounds.{all_within}
 use Rattle.table.proofs.bounds.all_within.Goals as goal
 

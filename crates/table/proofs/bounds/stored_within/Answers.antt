@@ -5,7 +5,6 @@ use Rattle.table.specs.Rows.{row_start}
 use Rattle.table.specs.Bounds.{all_within, stored_within, STORED}
 use native.Mathlib.Omega.{arith}
 use lib.Ieee.{of_bits}
-use borrow.Author.Rules.{rules}
 use Rattle.table.proofs.bounds.stored_within.Goals as goal
 
 pub returns : goal.returns

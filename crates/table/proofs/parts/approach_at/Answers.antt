@@ -1,5 +1,4 @@
 -- `table::parts::approach_at` meets its contract: the definition, replayed as the code runs. Assumes nothing.
-use borrow.Author.Rules.{rules}
 use mathlib.Core.Path.{refl}
 use Rattle.table.specs.Rows.{approach_at}
 use Rattle.table.proofs.parts.approach_at.Goals as goal

@@ -1,5 +1,4 @@
 -- `table::parts::by_angle_at` meets its contract: the definition, replayed as the code runs. Assumes nothing.
-use borrow.Author.Rules.{rules}
 use mathlib.Core.Path.{refl}
 use Rattle.table.specs.Rows.{by_angle_at}
 use Rattle.table.proofs.parts.by_angle_at.Goals as goal

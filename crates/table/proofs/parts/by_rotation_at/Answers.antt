@@ -1,5 +1,4 @@
 -- `table::parts::by_rotation_at` meets its contract: the definition, replayed as the code runs. Assumes nothing.
-use borrow.Author.Rules.{rules}
 use Rattle.table.specs.Rows.{by_rotation_at}
 use Rattle.table.proofs.parts.by_rotation_at.Goals as goal
 

@@ -1,5 +1,4 @@
 -- `table::parts::controls_at` meets its contract: the definition, replayed as the code runs. Assumes nothing.
-use borrow.Author.Rules.{rules}
 use Rattle.table.specs.Rows.{controls_at}
 use Rattle.table.proofs.parts.controls_at.Goals as goal
 

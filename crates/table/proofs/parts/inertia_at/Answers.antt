@@ -1,5 +1,4 @@
 -- `table::parts::inertia_at` meets its contract: the definition, replayed as the code runs. Assumes nothing.
-use borrow.Author.Rules.{rules}
 use mathlib.Core.Path.{refl}
 use Rattle.table.specs.Rows.{inertia_at}
 use Rattle.table.proofs.parts.inertia_at.Goals as goal

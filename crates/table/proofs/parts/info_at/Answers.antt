@@ -1,5 +1,4 @@
 -- `table::parts::info_at` meets its contract: the definition, replayed as the code runs. Assumes nothing.
-use borrow.Author.Rules.{rules}
 use Rattle.table.specs.Rows.{info_at}
 use Rattle.table.proofs.parts.info_at.Goals as goal
 

@@ -1,5 +1,4 @@
 -- `table::parts::motion_at` meets its contract: the definition, replayed as the code runs. Assumes nothing.
-use borrow.Author.Rules.{rules}
 use mathlib.Core.Path.{refl}
 use Rattle.table.specs.Rows.{motion_at}
 use Rattle.table.proofs.parts.motion_at.Goals as goal

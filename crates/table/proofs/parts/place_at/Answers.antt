@@ -1,5 +1,4 @@
 -- `table::parts::place_at` meets its contract: the definition, replayed as the code runs. Assumes nothing.
-use borrow.Author.Rules.{rules}
 use Rattle.table.specs.Rows.{place_at}
 use Rattle.table.proofs.parts.place_at.Goals as goal
 

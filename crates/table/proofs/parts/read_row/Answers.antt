@@ -1,5 +1,4 @@
 -- `table::parts::read_row` meets its contract: the definition, replayed as the code runs. Assumes nothing.
-use borrow.Author.Rules.{rules}
 use Rattle.table.specs.Rows.{wheel_of}
 use Rattle.table.proofs.parts.read_row.Goals as goal
 

@@ -1,5 +1,4 @@
 -- `table::parts::rotation_at` meets its contract: the definition, replayed as the code runs. Assumes nothing.
-use borrow.Author.Rules.{rules}
 use Rattle.table.specs.Rows.{rotation_at}
 use Rattle.table.proofs.parts.rotation_at.Goals as goal
 

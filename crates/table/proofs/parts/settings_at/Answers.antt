@@ -1,5 +1,4 @@
 -- `table::parts::settings_at` meets its contract: the definition, replayed as the code runs. Assumes nothing.
-use borrow.Author.Rules.{rules}
 use Rattle.table.specs.Rows.{settings_at}
 use Rattle.table.proofs.parts.settings_at.Goals as goal
 

@@ -1,5 +1,4 @@
 -- `table::parts::steering_at` meets its contract: the definition, replayed as the code runs. Assumes nothing.
-use borrow.Author.Rules.{rules}
 use Rattle.table.specs.Rows.{steering_at}
 use Rattle.table.proofs.parts.steering_at.Goals as goal
 

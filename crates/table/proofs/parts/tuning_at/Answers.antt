@@ -1,5 +1,4 @@
 -- `table::parts::tuning_at` meets its contract: the definition, replayed as the code runs. Assumes nothing.
-use borrow.Author.Rules.{rules}
 use mathlib.Core.Path.{refl}
 use Rattle.table.specs.Rows.{tuning_at}
 use Rattle.table.proofs.parts.tuning_at.Goals as goal

@@ -1,5 +1,4 @@
 -- `table::parts::vector_at` meets its contract: the definition, replayed as the code runs. Assumes nothing.
-use borrow.Author.Rules.{rules}
 use mathlib.Core.Path.{refl}
 use Rattle.table.specs.Rows.{vector_at}
 use Rattle.table.proofs.parts.vector_at.Goals as goal

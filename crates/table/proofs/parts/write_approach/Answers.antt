@@ -1,6 +1,5 @@
 -- `table::parts::write_approach` meets its contract: the numbers in order are copied over those of the part. Assumes nothing.
 use mathlib.Core.Path.{◌∙◌}
-use borrow.Author.Rules.{rules}
 use Rattle.table.proofs.Writes.{part_written, writes}
 use Rattle.table.proofs.parts.write_approach.Goals as goal
 

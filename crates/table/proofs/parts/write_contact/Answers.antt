@@ -1,5 +1,4 @@
 -- `table::parts::write_contact` meets its contract: the info is written, then the approach. Assumes nothing.
-use borrow.Author.Rules.{rules}
 use Rattle.wheel.specs.Parts.{with_approach}
 use Rattle.table.proofs.Writes.{written_after}
 use Rattle.table.proofs.parts.write_contact.Goals as goal

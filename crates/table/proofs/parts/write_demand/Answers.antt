@@ -1,5 +1,4 @@
 -- `table::parts::write_demand` meets its contract: the friction is written, then the answers on the directions. Assumes nothing.
-use borrow.Author.Rules.{rules}
 use Rattle.wheel.specs.Parts.{with_fallbacks}
 use Rattle.table.proofs.Writes.{written_after}
 use Rattle.table.proofs.parts.write_demand.Goals as goal

@@ -1,5 +1,4 @@
 -- `table::parts::write_force` meets its contract: one number of the row is set. Assumes nothing.
-use borrow.Author.Rules.{rules}
 use Rattle.table.proofs.Writes.{row_written, writes}
 use Rattle.table.proofs.parts.write_force.Goals as goal
 

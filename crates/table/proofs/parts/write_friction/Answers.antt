@@ -1,5 +1,4 @@
 -- `table::parts::write_friction` meets its contract: three numbers of the row are set. Assumes nothing.
-use borrow.Author.Rules.{rules}
 use Rattle.table.proofs.Writes.{row_written, writes}
 use Rattle.table.proofs.parts.write_friction.Goals as goal
 

@@ -1,5 +1,4 @@
 -- `table::parts::write_rotation` meets its contract: two numbers of the row are set. Assumes nothing.
-use borrow.Author.Rules.{rules}
 use Rattle.table.proofs.Writes.{row_written, writes}
 use Rattle.table.proofs.parts.write_rotation.Goals as goal
 

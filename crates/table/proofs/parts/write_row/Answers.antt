@@ -1,5 +1,4 @@
 -- `table::parts::write_row` meets its contract: each part is written, so the row is that of the wheel of all parts. Assumes nothing.
-use borrow.Author.Rules.{rules}
 use Rattle.wheel.specs.Parts.{with_place, with_settings, with_controls, with_approach, with_motion, with_fallbacks}
 use Rattle.table.proofs.Writes.{written_after}
 use Rattle.table.proofs.parts.write_row.Goals as goal

@@ -1,12 +1,8 @@
 -- `table::rows::copied` meets its contract: the invariant is that the first i numbers are those of the table. Assumes nothing.
-use borrow.Author.Rules.{rules}
-use native.Mathlib.Omega.{arith}
-use Prim.Native.Nat.{ℕ, ◌+◌, ◌-◌, ◌≤◌, ◌<◌}
-use mathlib.Core.Path.{◌≡◌, ◌∙◌}
-use mathlib.Core.List.{List, ◌++◌}
-use lib.ListN.{length, take, drop, get_or, set, length-set}
-use lib.Ieee.{Float, nan}
-use Rattle.lists.proofs.Parts.{copied_more, copied_all}
+use Prim.Native.Nat.{◌+◌, ◌-◌, ◌≤◌}
+use mathlib.Core.Path.{◌≡◌}
+use mathlib.Core.List.{◌++◌}
+use lib.ListN.{length, take, drop}
 use Rattle.table.specs.Layout as at
 use Rattle.table.proofs.rows.copied.Given as goal
 

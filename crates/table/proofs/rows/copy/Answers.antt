@@ -1,10 +1,9 @@
 -- `table::rows::copy` meets its contract: the invariant is that the first i numbers are those of src. Assumes nothing.
 use borrow.Author.Rules.{rules}
 use native.Mathlib.Omega.{arith}
-use Prim.Native.Nat.{◌≤◌, ◌-◌}
-use mathlib.Core.Path.{◌≡◌, ◌∙◌}
-use mathlib.Core.List.{◌++◌}
-use lib.ListN.{length, take, drop, length-set}
+use Prim.Native.Nat.{◌-◌}
+use mathlib.Core.Path.{◌∙◌}
+use lib.ListN.{length-set}
 use lib.Ieee.{nan}
 use Rattle.lists.proofs.Parts.{copied_more, copied_all}
 use Rattle.table.proofs.rows.copy.Goals as goal

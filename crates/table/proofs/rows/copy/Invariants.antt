@@ -1,12 +1,8 @@
 -- `table::rows::copy` meets its contract: the invariant is that the first i numbers are those of src. Assumes nothing.
-use borrow.Author.Rules.{rules}
-use native.Mathlib.Omega.{arith}
 use Prim.Native.Nat.{◌≤◌, ◌-◌}
-use mathlib.Core.Path.{◌≡◌, ◌∙◌}
+use mathlib.Core.Path.{◌≡◌}
 use mathlib.Core.List.{◌++◌}
-use lib.ListN.{length, take, drop, length-set}
-use lib.Ieee.{nan}
-use Rattle.lists.proofs.Parts.{copied_more, copied_all}
+use lib.ListN.{length, take, drop}
 use Rattle.table.proofs.rows.copy.Given as goal
 
 abbrev pub invariant-loop-i : goal.invariant-loop-i

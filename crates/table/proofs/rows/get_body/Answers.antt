@@ -4,7 +4,6 @@ use Prim.Native.Nat.{◌*◌}
 use Rattle.lists.proofs.Parts.{part_is}
 use Rattle.table.specs.Layout as at
 use Rattle.table.specs.Rows.{body_of, body_at}
-use borrow.Author.Rules.{rules}
 use Rattle.table.proofs.rows.get_body.Goals as goal
 
 pub returns : goal.returns

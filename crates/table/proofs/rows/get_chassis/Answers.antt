@@ -3,7 +3,6 @@ use mathlib.Core.Path.{◌∙◌, ap, refl}
 use Rattle.lists.proofs.Parts.{part_to}
 use Rattle.table.specs.Layout as at
 use Rattle.table.specs.Rows.{chassis_of, chassis_at}
-use borrow.Author.Rules.{rules}
 use Rattle.table.proofs.rows.get_chassis.Goals as goal
 
 pub returns : goal.returns

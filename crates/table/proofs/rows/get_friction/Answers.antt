@@ -3,7 +3,6 @@ use mathlib.Core.Path.{◌∙◌, ap}
 use mathlib.Core.List.{List}
 use lib.Ieee.{Float}
 use Rattle.wheel.specs.Parts.{friction_in}
-use borrow.Author.Rules.{rules}
 use Rattle.table.specs.Rows.{wheel_of, wheel_at}
 use Rattle.table.proofs.Writes.{row_lent}
 use Rattle.table.proofs.rows.get_friction.Goals as goal

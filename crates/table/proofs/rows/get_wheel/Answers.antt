@@ -1,6 +1,5 @@
 -- `table::rows::get_wheel` meets its contract: the lent part is the row. Assumes nothing.
 use mathlib.Core.Path.{◌∙◌, ap}
-use borrow.Author.Rules.{rules}
 use Rattle.table.specs.Rows.{wheel_of, wheel_at}
 use Rattle.table.proofs.Writes.{row_lent}
 use Rattle.table.proofs.rows.get_wheel.Goals as goal

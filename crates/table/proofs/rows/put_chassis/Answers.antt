@@ -4,7 +4,6 @@ use Rattle.lists.proofs.Parts.{paste_is}
 use Rattle.table.specs.Layout as at
 use Rattle.table.specs.Rows.{chassis_list, put_chassis}
 use Rattle.table.proofs.Laws.{length_chassis}
-use borrow.Author.Rules.{rules}
 use Rattle.table.proofs.rows.put_chassis.Goals as goal
 
 pub returns : goal.returns

@@ -1,5 +1,4 @@
 -- `table::rows::put_demand` meets its contract: the lent row comes back written. Assumes nothing.
-use borrow.Author.Rules.{rules}
 use Rattle.wheel.specs.Parts.{with_fallbacks, with_friction}
 use Rattle.table.proofs.Writes.{put_written}
 use Rattle.table.proofs.rows.put_demand.Goals as goal

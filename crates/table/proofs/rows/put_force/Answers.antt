@@ -1,5 +1,4 @@
 -- `table::rows::put_force` meets its contract: the lent row comes back written. Assumes nothing.
-use borrow.Author.Rules.{rules}
 use Rattle.wheel.specs.Parts.{with_force}
 use Rattle.table.proofs.Writes.{put_written}
 use Rattle.table.proofs.rows.put_force.Goals as goal

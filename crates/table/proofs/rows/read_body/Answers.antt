@@ -1,5 +1,4 @@
 -- `table::rows::read_body` meets its contract: the definition, replayed as the code runs. Assumes nothing.
-use borrow.Author.Rules.{rules}
 use Rattle.table.specs.Rows.{body_of}
 use Rattle.table.proofs.rows.read_body.Goals as goal
 

@@ -1,5 +1,4 @@
 -- `table::rows::read_chassis` meets its contract: the definition, replayed as the code runs. Assumes nothing.
-use borrow.Author.Rules.{rules}
 use Rattle.table.specs.Rows.{chassis_of}
 use Rattle.table.proofs.rows.read_chassis.Goals as goal
 

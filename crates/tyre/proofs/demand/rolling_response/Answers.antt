@@ -1,5 +1,4 @@
 -- `tyre::demand::rolling_response` meets its contract: the definition, replayed as the code runs. Assumes nothing.
-use borrow.Author.Rules.{rules}
 use mathlib.Core.Path.{refl}
 use lib.Ieee.{of_bits}
 use Rattle.tyre.specs.Demand.{rolling_response}

@@ -1,5 +1,4 @@
 -- `wheel::ray::is_grounded` meets its contract: the definition, replayed as the code runs. Assumes nothing.
-use borrow.Author.Rules.{rules}
 use Rattle.wheel.specs.Ray.{is_grounded}
 use Rattle.wheel.proofs.ray.is_grounded.Goals as goal
 

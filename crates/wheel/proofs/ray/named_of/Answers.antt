@@ -1,5 +1,4 @@
 -- `wheel::ray::named_of` meets its contract: the definition, replayed as the code runs. Assumes nothing.
-use borrow.Author.Rules.{rules}
 use Rattle.wheel.specs.Ray.{named_of}
 use Rattle.wheel.proofs.ray.named_of.Goals as goal
 

@@ -1,5 +1,4 @@
 -- `wheel::ray::ray_cast` meets its contract: the definition, replayed as the code runs. Assumes nothing.
-use borrow.Author.Rules.{rules}
 use Rattle.wheel.specs.Ray.{ray_cast}
 use Rattle.wheel.proofs.ray.ray_cast.Goals as goal
 

@@ -1,5 +1,4 @@
 -- `wheel::steer::kept_steering` meets its contract: the definition, replayed as the code runs. Assumes nothing.
-use borrow.Author.Rules.{rules}
 use lib.Ieee.{of_bits}
 use Rattle.wheel.specs.Steering.{kept_steering}
 use Rattle.wheel.proofs.steer.kept_steering.Goals as goal

@@ -1,5 +1,4 @@
 -- `wheel::steer::steering_rotation` meets its contract: the definition, replayed as the code runs. Assumes nothing.
-use borrow.Author.Rules.{rules}
 use Rattle.wheel.specs.Steering.{steering_rotation}
 use Rattle.wheel.proofs.steer.steering_rotation.Goals as goal
 
