@@ -15,7 +15,7 @@ slice_bounds-take_code-count c = c.loop-out.invariant.within
 
 pub take_code-turn-requires : goal.take_code-turn-requires
 take_code-turn-requires c =
-    (c.loop-out.invariant.rows, c.loop-out.invariant.marks, omega (arith, c.loop-out.invariant.room, c.loop-out.invariant.sized, c.if-out-at-lt-LINE_BYTES.false))
+    (c.loop-out.invariant.rows, c.loop-out.invariant.marks, omega (arith, c.loop-out.invariant.room, c.loop-out.invariant.sized))
 
 -- a code takes a byte at least, and no more than are left
 pub overflow_add-taken : goal.overflow_add-taken
