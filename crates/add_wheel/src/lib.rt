@@ -3,31 +3,29 @@
 
 ghost use Rattle.std.specs.Prelude.{◌≡◌};
 ghost use Rattle.refusals.specs.After.{after};
+ghost use Rattle.refusals.specs.Refused.{answered};
 ghost use Rattle.add_wheel.specs.Add.{blank_wheel, new_wheel, refuse_add, add_wheel};
 
-use refusals::{handed, shape};
+use refusals::{Refusal, handed, shape};
 use table::layout::*;
 use wheel::{Controls, Place, Settings, Steering, Wheel};
 
 // A wheel whose numbers are all 0.
+#[tactic(auto, unfolding(crate::specs::Add::blank_wheel))]
 fn blank_wheel() -> Wheel
     ensures { result ≡ blank_wheel }
 {
-    let zeros = [0.0; ROW];
-    table::parts::read_row(&zeros)
+    table::parts::read_row(&[0.0; ROW])
 }
 
 // A wheel that has not moved yet: what was handed in, direction and axle also as the world ones, identity steering, 0 elsewhere.
 fn new_wheel(s: Settings) -> Wheel
     ensures { result ≡ new_wheel s }
 {
-    let zero = vector::zero();
-    let direction = s.direction;
-    let axle = s.axle;
     let place = Place {
-        centre: zero,
-        direction,
-        axle,
+        centre: vector::zero(),
+        direction: s.direction,
+        axle: s.axle,
     };
     let straight = wheel::steer::identity();
     let controls = Controls {
@@ -35,51 +33,48 @@ fn new_wheel(s: Settings) -> Wheel
         brake: 0.0,
         steering: Steering::ByRotation(straight),
     };
-    let mut w = blank_wheel();
-    w.settings = s;
-    w.place = place;
-    w.controls = wheel::steer::kept_controls(controls);
-    w
+    Wheel {
+        place,
+        settings: s,
+        controls: controls.into(),
+        ..blank_wheel()
+    }
 }
 
-fn refuse_add(table: &[f32], whole: &[u32], s: Settings) -> u32
-    ensures { result ≡ refuse_add table.now whole.now s }
+fn refuse_add(table: &[f32], whole: &[u32], s: Settings) -> Result<(), Refusal>
+    ensures { answered result ≡ refuse_add table.now whole.now s }
 {
-    if !shape::is_shape_ok(table, whole) {
-        return 1;
-    }
+    let (table, whole) = shape::vehicle(table, whole)?;
     let count = whole[COUNT] as usize;
     if count >= WHEELS {
-        return 3;
+        return Err(Refusal::Full);
     }
     if !handed::are_settings_handed(s) {
-        return 2;
+        return Err(Refusal::BadNumber);
     }
     if !table::bounds::stored_within(table, count) {
-        return 2;
+        return Err(Refusal::BadNumber);
     }
     if !ranges::are_settings_in_range(s) {
-        return 10;
+        return Err(Refusal::OutOfRange);
     }
-    0
+    Ok(())
 }
 
 // Adds a wheel, whose number is the count so far. The mark becomes new: the vehicle must be aimed and driven before a wheel is read.
 // Takes: the table and the whole numbers of a vehicle; the wheel's settings: connection point, direction and axle relative to the chassis,
 // rest length, radius, tuning and roll influence.
-// Answers 0, or refuses with the first that holds: 1, no vehicle's table; 3, 16 wheels already; 2, a number handed in that is not finite or
-// above 2^20 in magnitude, or a stored one that is not finite or above 2^40; 10, a radius not above 0, another setting from the rest
-// length on below 0, or a roll influence above 1.
-pub fn add_wheel(table: &mut [f32], whole: &mut [u32], s: Settings) -> u32
-    ensures { after result table.new whole.new ≡ add_wheel table.old whole.old s }
+// Refuses with the first that holds: 1, no vehicle's table; 3, 16 wheels already; 2, a number handed in that is not finite or above 2^20 in
+// magnitude, or a stored one that is not finite or above 2^40; 10, a radius not above 0, another setting from the rest length on below 0,
+// or a roll influence above 1.
+pub fn add_wheel(table: &mut [f32], whole: &mut [u32], s: Settings) -> Result<(), Refusal>
+    ensures { after (answered result) table.new whole.new ≡ add_wheel table.old whole.old s }
 {
-    let number = refuse_add(&table[..], &whole[..], s);
-    if number != 0 {
-        return number;
-    }
+    refuse_add(table, whole, s)?;
+    let rows = table.first_chunk_mut::<SIZE>().unwrap();
     let count = whole[COUNT];
-    table::rows::put_wheel(table, count as usize, new_wheel(s));
+    table::rows::put(rows, count as usize, new_wheel(s));
     whole[COUNT] = count + 1;
     whole[MARK] = NEW;
-    0
+    Ok(())
 }

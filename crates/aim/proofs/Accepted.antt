@@ -17,8 +17,7 @@ use Rattle.refusals.specs.Steered.{all_steered_ok}
 use Rattle.refusals.specs.After.{after}
 use Rattle.refusals.proofs.Says.{Shape, shape_says}
 use Rattle.refusals.proofs.Settled.{settled_number}
-use Rattle.aim.specs.declared.Aimed.{Aimed}
-use Rattle.aim.specs.Aim.{aimed_table, chassis_tests, place_tests, refuse_aim, not_aimed, aimed_by, aim_of}
+use Rattle.aim.specs.Aim.{AimReply, aimed_table, chassis_tests, place_tests, refuse_aim, not_aimed, aimed_by, aim_of}
 
 pub record AimTested (f : Format) (t : List Float) (m : List ℕ) : Type 0 where
   pub shape : Shape t m
@@ -39,6 +38,10 @@ chassis_tests_say f t m c h =
     let ranges = pick_zero _ _ _ chassis.1 in
     record { shape = shape_says t m shape.0; stored = stored.0; ranges = ranges.0 }
 
+-- the same of a callee's answer
+pub tested_shape : (f : Format) (t : List Float) (m : List ℕ) (c : Chassis) → 0 ≡ first_failed (chassis_tests f t m c) → Shape t m
+tested_shape f t m c h = (chassis_tests_say f t m c (sym h)).shape
+
 pub aim_says : (f : Format) (t : List Float) (m : List ℕ) (c : Chassis) → refuse_aim f t m c ≡ 0 → AimTested f t m
 unfolding refuse_aim
 aim_says f t m c h = chassis_tests_say f t m c (passed_of_append (chassis_tests f t m c) (place_tests f c (count_of m) t) h)
@@ -51,7 +54,7 @@ steered_says f t m c h =
     (pick_zero _ _ _ (sym (append_passed (chassis_tests f t m c) (place_tests f c (count_of m) t) (all_numbered f t m c) first) ∙ h)).0
 
 -- the same of an answer with the number 0
-pub accepted_aim_says : (f : Format) (t : List Float) (m : List ℕ) (c : Chassis) {reply : Aimed} {t' : List Float} {m' : List ℕ} → after reply t' m' ≡ aim_of f t m c → reply.number ≡ 0 → AimTested f t m
+pub accepted_aim_says : (f : Format) (t : List Float) (m : List ℕ) (c : Chassis) {reply : AimReply} {t' : List Float} {m' : List ℕ} → after reply t' m' ≡ aim_of f t m c → reply.number ≡ 0 → AimTested f t m
 unfolding aim_of not_aimed aimed_by
 accepted_aim_says f t m c e h =
     let number : (aim_of f t m c).reply.number ≡ 0 = rw (← e) h in

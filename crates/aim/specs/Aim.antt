@@ -56,14 +56,23 @@ place_tests f c n t = all_steered_ok f (aimed_table f c n t) n or 17 ∷ stored_
 unfoldable pub refuse_aim : Format → List Float → List ℕ → Chassis → ℕ
 refuse_aim f t m c = first_failed (chassis_tests f t m c ++ place_tests f c (count_of m) t)
 
--- ---- the answer
-unfoldable pub not_aimed : ℕ → Aimed
+-- ---- the reply: its number, the signed speed and a sight for each wheel, zeros where it is refused
+pub record AimReply : Type 0 where
+  pub number : ℕ
+  pub speed : Float
+  pub sights : List Sight
+
+-- what the code answers as the reply
+abbrev pub aim_reply : Aimed → AimReply
+aim_reply a = record { number = 0; speed = a.speed; sights = a.sights }
+
+unfoldable pub not_aimed : ℕ → AimReply
 not_aimed number = record { number = number; speed = zero; sights = replicate at.WHEELS no_sight }
 
-unfoldable pub aimed_by : Format → ℕ → Chassis → ℕ → List Float → Aimed
+unfoldable pub aimed_by : Format → ℕ → Chassis → ℕ → List Float → AimReply
 aimed_by f forward c n t = record { number = 0; speed = speed_of f forward c; sights = sights_of f n t }
 
-unfoldable pub aim_of : Format → List Float → List ℕ → Chassis → After Aimed
+unfoldable pub aim_of : Format → List Float → List ℕ → Chassis → After AimReply
 aim_of f t m c =
     let placed = aimed_table f c (count_of m) t in
     settled (refuse_aim f t m c) not_aimed (after (aimed_by f (forward_of m) c (count_of m) placed) placed (marked m at.AIMED)) t m

@@ -1,16 +1,17 @@
 // Aim: the chassis kept, the wheels placed under it, and what the host casts.
 #![tactic(auto)]
 
-ghost use Rattle.std.specs.Prelude.{◌≡◌, ◌≤◌, length};
+ghost use Rattle.std.specs.Prelude.{◌≡◌, ◌≤◌};
 ghost use Rattle.std.specs.Float.{binary32};
 ghost use Rattle.lists.specs.Refusal.{first_failed};
 ghost use Rattle.table.specs.Layout as at;
 ghost use Rattle.refusals.specs.After.{after};
-ghost use Rattle.aim.specs.Aim.{speed_of, aimed_table, no_sight, sight_of, sights_of, chassis_tests, not_aimed, aim_of};
+ghost use Rattle.refusals.specs.Refused.{answered, replied};
+ghost use Rattle.aim.specs.Aim.{speed_of, aimed_table, no_sight, sight_of, sights_of, chassis_tests, aim_reply, not_aimed, aim_of};
 ghost use Rattle.aim.specs.Sights.{sight_list};
 
 use body::Chassis;
-use refusals::{WheelTest, handed, shape, wheels};
+use refusals::{Refusal, handed, shape, wheels};
 use table::layout::*;
 use vector::Vector;
 use wheel::Wheel;
@@ -22,10 +23,9 @@ pub struct Sight {
     pub ray: Vector,
 }
 
-// What an aim answers: its number, the signed speed, and a sight for each wheel; zeros for the others.
+// What an accepted aim answers: the signed speed, and a sight for each wheel; zeros for the others.
 #[derive(Clone, Copy)]
 pub struct Aimed {
-    pub number: u32,
     pub speed: f32,
     pub sights: [Sight; WHEELS],
 }
@@ -44,6 +44,7 @@ fn speed_of(forward: u32, c: Chassis) -> f32
     }
 }
 
+#[tactic(auto, unfolding(crate::specs::Aim::no_sight))]
 fn no_sight() -> Sight
     ensures { result ≡ no_sight }
 {
@@ -54,6 +55,7 @@ fn no_sight() -> Sight
     }
 }
 
+#[tactic(auto, unfolding(crate::specs::Aim::sight_of))]
 fn sight_of(w: Wheel) -> Sight
     ensures { result ≡ sight_of binary32 w }
 {
@@ -65,57 +67,43 @@ fn sight_of(w: Wheel) -> Sight
 }
 
 // The sights of the first n wheels.
-fn sights_of(table: &[f32], n: usize) -> [Sight; WHEELS]
-    requires { (length table.now ≡ at.SIZE) × (n ≤ at.WHEELS) }
+fn sights_of(table: &[f32; SIZE], n: usize) -> [Sight; WHEELS]
+    requires { n ≤ at.WHEELS }
     ensures { result ≡ sights_of binary32 n table.now }
 {
     let none = no_sight();
     let mut all = [none; WHEELS];
-    let mut i = 0usize;
-    while i < n {
+    for i in 0..n {
         all[i] = sight_of(table::rows::get_wheel(table, i));
-        i += 1usize;
     }
     all
 }
 
-fn not_aimed(number: u32) -> Aimed
-    ensures { result ≡ not_aimed number }
+#[tactic(auto, using(lists::proofs::Picks::not_yes, lists::proofs::Picks::not_no, refusals::proofs::Lent::lent_shape, refusals::proofs::Lent::no_vehicle, refusals::proofs::Says::shape_says), unfolding(crate::specs::Aim::chassis_tests, lists::specs::Refusal::first_failed))]
+fn refuse_chassis(table: &[f32], whole: &[u32], c: Chassis) -> Result<(), Refusal>
+    ensures { answered result ≡ first_failed (chassis_tests binary32 table.now whole.now c) }
 {
-    let none = no_sight();
-    let all = [none; WHEELS];
-    Aimed {
-        number,
-        speed: 0.0,
-        sights: all,
-    }
-}
-
-fn refuse_chassis(table: &[f32], whole: &[u32], c: Chassis) -> u32
-    ensures { result ≡ first_failed (chassis_tests binary32 table.now whole.now c) }
-{
-    if !shape::is_shape_ok(table, whole) {
-        return 1;
-    }
+    let (table, whole) = shape::vehicle(table, whole)?;
     let count = whole[COUNT] as usize;
     if !handed::is_chassis_handed(c) {
-        return 2;
+        return Err(Refusal::BadNumber);
     }
     if !table::bounds::stored_within(table, count) {
-        return 2;
+        return Err(Refusal::BadNumber);
     }
     if !ranges::is_chassis_in_range(c) {
-        return 10;
+        return Err(Refusal::OutOfRange);
     }
-    if !wheels::holds_of_wheels(WheelTest::InRange, table, count) {
-        return 10;
+    if !wheels::are_wheels_in_range(table, count) {
+        return Err(Refusal::OutOfRange);
     }
-    0
+    Ok(())
 }
 
 // The table with the chassis kept and the first n wheels under its pose.
-fn aimed_table(table: &mut [f32], n: usize, c: Chassis)
-    requires { (length table.old ≡ at.SIZE) × (n ≤ at.WHEELS) }
+#[tactic(auto, unfolding(crate::specs::Aim::aimed_table))]
+fn aimed_table(table: &mut [f32; SIZE], n: usize, c: Chassis)
+    requires { n ≤ at.WHEELS }
     ensures { table.new ≡ aimed_table binary32 c n table.old }
 {
     table::rows::put_chassis(table, c);
@@ -124,36 +112,33 @@ fn aimed_table(table: &mut [f32], n: usize, c: Chassis)
 
 // Takes the chassis and keeps it, works out where the wheels are, and answers what the host casts. The mark becomes aimed.
 // Takes: the table and the whole numbers of a vehicle; the chassis.
-// Answers the number 0 with the signed speed and, for each wheel, where its ray starts and the ray; or refuses with the first that holds,
-// and zeros: 1, no vehicle's table; 2, a number handed in that is not finite or above 2^20 in magnitude, or a stored one that is not finite
+// Answers the signed speed and, for each wheel, where its ray starts and the ray; or refuses with the first that holds:
+// 1, no vehicle's table; 2, a number handed in that is not finite or above 2^20 in magnitude, or a stored one that is not finite
 // or above 2^40; 10, a chassis whose inverse mass is not from 2^-20 to 2^20 or whose rotation's sum of squares is not from 1 - 2^-10 to
 // 1 + 2^-10, or a stored setting out of its range; 17, a wheel steered by an angle whose world direction has no unit length, or with whose
 // axis the angle makes no rotation of unit length; 8, a new number that could not be stored.
-pub fn aim(table: &mut [f32], whole: &mut [u32], c: Chassis) -> Aimed
-    ensures { after result table.new whole.new ≡ aim_of binary32 table.old whole.old c }
+#[tactic(auto, using(crate::proofs::Accepted::tested_shape))]
+pub fn aim(table: &mut [f32], whole: &mut [u32], c: Chassis) -> Result<Aimed, Refusal>
+    ensures { after (replied aim_reply not_aimed result) table.new whole.new ≡ aim_of binary32 table.old whole.old c }
 {
-    let number = refuse_chassis(&table[..], &whole[..], c);
-    if number != 0 {
-        return not_aimed(number);
-    }
+    refuse_chassis(table, whole, c)?;
     let n = whole[COUNT] as usize;
     let forward = whole[FORWARD];
     let mut work = [0.0; SIZE];
-    table::rows::copy(&mut work, &table[..]);
+    work.copy_from_slice(table);
     aimed_table(&mut work, n, c);
-    if !wheels::holds_of_wheels(WheelTest::Steered, &work, n) {
-        return not_aimed(17);
+    if !wheels::are_wheels_steered_ok(&work, n) {
+        return Err(Refusal::BadTurn);
     }
     if !table::bounds::stored_within(&work, n) {
-        return not_aimed(8);
+        return Err(Refusal::WildStep);
     }
-    table::rows::copy(table, &work);
+    table.copy_from_slice(&work);
     whole[MARK] = AIMED;
-    Aimed {
-        number: 0,
+    Ok(Aimed {
         speed: speed_of(forward, c),
         sights: sights_of(&work, n),
-    }
+    })
 }
 
 // How many numbers a sight has.

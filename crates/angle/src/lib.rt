@@ -23,6 +23,7 @@ const GRAINS_AS_FLOAT: f32 = 1073741824.0;
 const GRAIN: f32 = 0.000000000931322574615478515625;
 
 // Half of a steering angle.
+#[tactic(auto, using(real::proofs::Literals::half_is), unfolding(crate::specs::Angle::half_of))]
 pub fn half_of(angle: f32) -> f32
     ensures { result ≡ half_of binary32 angle }
 {
@@ -48,6 +49,7 @@ fn grains_of(h: f32) -> u64
 }
 
 // The square of n grains, in grains.
+#[tactic(auto, unfolding(crate::specs::Angle::square_of))]
 fn square_of(n: u64) -> u64
     requires { n ≤ of.GRAINS }
     ensures { (result ≡ square_of n) × (result ≤ of.GRAINS) }
@@ -56,6 +58,7 @@ fn square_of(n: u64) -> u64
 }
 
 // 1 − (q/d) × t, in grains.
+#[tactic(auto, unfolding(crate::specs::Angle::bracket))]
 fn bracket(q: u64, d: u64, t: u64) -> u64
     requires { (q ≤ of.GRAINS) × (1 ≤ d) × (d ≤ 132) × (t ≤ of.GRAINS) }
     ensures { (result ≡ bracket q d t) × (result ≤ of.GRAINS) }
@@ -63,6 +66,7 @@ fn bracket(q: u64, d: u64, t: u64) -> u64
     GRAINS - q * t / (GRAINS * d)
 }
 
+#[tactic(auto, unfolding(crate::specs::Angle::cosine_grains))]
 fn cosine_grains(q: u64) -> u64
     requires { q ≤ of.GRAINS }
     ensures { (result ≡ cosine_grains q) × (result ≤ of.GRAINS) }
@@ -76,6 +80,7 @@ fn cosine_grains(q: u64) -> u64
 }
 
 // Of the sine, less its factor h.
+#[tactic(auto, unfolding(crate::specs::Angle::sine_grains))]
 fn sine_grains(q: u64) -> u64
     requires { q ≤ of.GRAINS }
     ensures { (result ≡ sine_grains q) × (result ≤ of.GRAINS) }
@@ -96,6 +101,7 @@ fn fraction_of(t: u64) -> f32
 }
 
 // The sine and the cosine of h, which is half of a steering angle.
+#[tactic(auto, unfolding(crate::specs::Angle::sine_of, crate::specs::Angle::cosine_of, crate::specs::Angle::sine_cosine_of))]
 pub fn sine_cosine(h: f32) -> SineCosine
     ensures { result ≡ sine_cosine_of binary32 h }
 {

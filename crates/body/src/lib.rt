@@ -32,6 +32,7 @@ pub struct GroundBody {
     pub dynamic: bool,
 }
 
+#[tactic(auto, unfolding(crate::specs::Body::velocity_at_point))]
 pub fn velocity_at_point(b: Body, p: Vector) -> Vector
     ensures { result ≡ velocity_at_point binary32 b p }
 {
@@ -39,22 +40,26 @@ pub fn velocity_at_point(b: Body, p: Vector) -> Vector
 }
 
 // The chassis after an impulse at the point p.
+#[tactic(auto, unfolding(crate::specs::Body::apply_impulse_at_point))]
 pub fn apply_impulse_at_point(c: Chassis, impulse: Vector, p: Vector) -> Chassis
     ensures { result ≡ apply_impulse_at_point binary32 c impulse p }
 {
     let b = c.body;
-    let mut after = b;
-    after.linvel = vector::add(b.linvel, vector::parts(impulse, c.effective));
+    let linvel = vector::add(b.linvel, vector::parts(impulse, c.effective));
     let arm = vector::sub(p, b.centre);
-    after.angvel = vector::add(
-        b.angvel,
-        vector::inertia_dot(b.inertia, vector::cross(arm, impulse)),
-    );
-    let mut r = c;
-    r.body = after;
-    r
+    let turn = vector::inertia_dot(b.inertia, vector::cross(arm, impulse));
+    let angvel = vector::add(b.angvel, turn);
+    Chassis {
+        body: Body {
+            linvel,
+            angvel,
+            ..b
+        },
+        ..c
+    }
 }
 
+#[tactic(auto, unfolding(crate::specs::Body::impulse_denominator))]
 pub fn impulse_denominator(b: Body, p: Vector, n: Vector) -> f32
     ensures { result ≡ impulse_denominator binary32 b p n }
 {

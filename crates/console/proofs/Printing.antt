@@ -4,11 +4,12 @@ use mathlib.Core.Bool.{true, false}
 use mathlib.Core.List.{List, [], ◌++◌, append_assoc, append-nil}
 use mathlib.Core.Path.{◌≡◌, refl, sym, ap, ◌∙◌}
 use native.Mathlib.Omega.{arith}
-use lib.Ieee.{Float, Format}
+use lib.Ieee.{Format}
 use lib.ListN.{length, drop}
 use Rattle.lists.specs.Pick.{pick}
 use Rattle.lines.specs.Line.{title}
 use Rattle.scenario.specs.Format.{format}
+use Rattle.perform.specs.declared.Car.{Car}
 use Rattle.session.specs.declared.Stands.{Stands}
 use Rattle.session.specs.Layout.{TEXT-BYTES}
 use Rattle.session.specs.Program.{start_car, printed}
@@ -77,7 +78,7 @@ module _ (f : Format) (room : ℕ) where
       sym (further_text (k + j) [] x) ∙ ap (λ (p : Progress). p.text) stays
 
 -- The theorem: once the program has ended, what its runs printed is what document 01 says of the bytes that were read.
-pub run_prints : {r : ℕ} {window : List ℕ} {t : List Float} {m : List ℕ} (p : Serves start_car [] r window t m) → p.end.ended ≡ true → title ++ p.end.text ≡ printed format (joined p.blocks)
+pub run_prints : {r : ℕ} {window : List ℕ} {c : Car} (p : Serves start_car [] r window c) → p.end.ended ≡ true → title ++ p.end.text ≡ printed format (joined p.blocks)
 unfolding program
 run_prints p e =
     let x = serving false start_car [] p.blocks in

@@ -1,17 +1,17 @@
 -- Laws on the program's loop. In order: blocks that were read; what a run more makes of the car and of the blocks; where the loop stands; it starts; a turn; its end. Assumes nothing.
-use Prim.Native.Nat.{ℕ, suc, ◌+◌, ◌≤◌, ◌<◌}
+use Prim.Native.Nat.{ℕ, suc, ◌≤◌, ◌<◌}
 use mathlib.Core.Bool.{Bool, true, false}
 use mathlib.Core.List.{List, [], ◌∷◌, ◌++◌, append_assoc}
 use mathlib.Core.Path.{◌≡◌, refl, sym, ap, ◌∙◌}
 use native.Mathlib.Omega.{arith}
-use lib.Ieee.{Float, Format}
+use lib.Ieee.{Format}
 use borrow.Author.Tests.{lt-ltb}
 use lib.ListN.{length, take, drop}
 use Rattle.lists.specs.All.{all}
 use Rattle.lists.proofs.Picks.{pick_true}
 use Rattle.lists.specs.Pick.{pick}
 use Rattle.scenario.specs.Format.{format}
-use Rattle.turns.specs.Car.{Car, car}
+use Rattle.perform.specs.declared.Car.{Car}
 use Rattle.session.specs.declared.Stands.{Stands}
 use Rattle.session.specs.Layout.{WINDOW-BYTES, TEXT-BYTES}
 use Rattle.session.specs.Runs.{Ran, run_of}
@@ -65,54 +65,50 @@ on_by_lem f room text x e h = rw h
 
 -- ---- the loop
 -- k runs have led here, whatever is still to be read; nothing is once the input has ended
-pub record Going (s : Car) (bytes : List ℕ) (k : ℕ) (i : Input) (window : List ℕ) (t : List Float) (m : List ℕ) : Type 0 where
+pub record Going (s : Car) (bytes : List ℕ) (k : ℕ) (i : Input) (window : List ℕ) (c : Car) : Type 0 where
   pub text : List ℕ
   pub read : List (List ℕ)
   pub gave : all given read ≡ true
-  pub same : (rest : List (List ℕ)) → (i.last ≡ true → rest ≡ []) → after format TEXT-BYTES k (serving false s bytes (read ++ rest)) ≡ progress text (serving i.last (car t m) (take i.filled window) rest) false
+  pub same : (rest : List (List ℕ)) → (i.last ≡ true → rest ≡ []) → after format TEXT-BYTES k (serving false s bytes (read ++ rest)) ≡ progress text (serving i.last c (take i.filled window) rest) false
 
-pub record Loop (s : Car) (bytes : List ℕ) (turns : ℕ) (i : Input) (window : List ℕ) (t : List Float) (m : List ℕ) : Type 0 where
+pub record Loop (s : Car) (bytes : List ℕ) (k : ℕ) (i : Input) (window : List ℕ) (c : Car) : Type 0 where
   pub fits : i.filled ≤ WINDOW-BYTES
-  pub k : ℕ
-  pub counted : k + turns ≡ RUNS
-  pub goes : i.runs ≡ true → Going s bytes k i window t m
-  pub stopped : i.runs ≡ false → Serves s bytes i.filled window t m
+  pub goes : i.runs ≡ true → Going s bytes k i window c
+  pub stopped : i.runs ≡ false → Serves s bytes i.filled window c
 
-pub loop_starts : (filled : ℕ) (window : List ℕ) (t : List Float) (m : List ℕ) → filled ≤ WINDOW-BYTES → Loop (car t m) (take filled window) RUNS (input filled false true) window t m
+pub loop_starts : (filled : ℕ) (window : List ℕ) (c : Car) → filled ≤ WINDOW-BYTES → Loop c (take filled window) 0 (input filled false true) window c
 unfolding after
-loop_starts filled window t m h = record {
+loop_starts filled window c h = record {
   fits = h;
-  k = 0;
-  counted = refl;
   goes = λ _. record { text = []; read = []; gave = none_gave; same = λ rest e. refl };
   stopped = λ e. let z : ◌≡◌ {A = ℕ} 0 1 = cc in absurd (omega arith);
 }
 
-module _ {s : Car} {bytes : List ℕ} {k : ℕ} {i : Input} {window : List ℕ} {t : List Float} {m : List ℕ} (g : Going s bytes k i window t m) where
+module _ {s : Car} {bytes : List ℕ} {k : ℕ} {i : Input} {window : List ℕ} {c : Car} (g : Going s bytes k i window c) where
   abbrev here : Ran
-  here = run_of format i.last (car t m) TEXT-BYTES (take i.filled window)
+  here = run_of format i.last c TEXT-BYTES (take i.filled window)
 
   -- one run more, with so many blocks still to be read
   next_run : (e : Stands) (rest : List (List ℕ)) → here.stands ≡ e → (i.last ≡ true → rest ≡ [])
-      → after format TEXT-BYTES (suc k) (serving false s bytes (g.read ++ rest)) ≡ on_by e here g.text (serving i.last (car t m) (take i.filled window) rest)
+      → after format TEXT-BYTES (suc k) (serving false s bytes (g.read ++ rest)) ≡ on_by e here g.text (serving i.last c (take i.filled window) rest)
   unfolding after
-  next_run e rest h none = ap (on format TEXT-BYTES) (g.same rest none) ∙ on_by_lem format TEXT-BYTES g.text (serving i.last (car t m) (take i.filled window) rest) e h
+  next_run e rest h none = ap (on format TEXT-BYTES) (g.same rest none) ∙ on_by_lem format TEXT-BYTES g.text (serving i.last c (take i.filled window) rest) e h
 
-  module _ (r : Input) (window' : List ℕ) {t' : List Float} {m' : List ℕ} (table : t' ≡ here.car.table) (whole : m' ≡ here.car.whole) where
-    cars : here.car ≡ car t' m'
-    cars = rw (table, whole)
+  module _ (r : Input) (window' : List ℕ) {c' : Car} (left_car : c' ≡ here.car) where
+    cars : here.car ≡ c'
+    cars = sym left_car
 
-    goes_full : here.stands ≡ Stands.Full → r ≡ input r.filled i.last true → take r.filled window' ≡ drop here.taken (take i.filled window) → Going s bytes (suc k) r window' t' m'
+    goes_full : here.stands ≡ Stands.Full → r ≡ input r.filled i.last true → take r.filled window' ≡ drop here.taken (take i.filled window) → Going s bytes (suc k) r window' c'
     unfolding on_by
     goes_full e q left =
         let last : r.last ≡ i.last = ap (λ (z : Input). z.last) q in
         record { text = g.text ++ here.text; read = g.read; gave = g.gave; same = λ rest none. next_run Stands.Full rest e (λ h. none (last ∙ h)) ∙ rw (last, left, cars) }
 
-    goes_more : (block : List ℕ) → 0 < length block → here.stands ≡ Stands.More → r ≡ input r.filled false true → take r.filled window' ≡ drop here.taken (take i.filled window) ++ block → Going s bytes (suc k) r window' t' m'
+    goes_more : (block : List ℕ) → 0 < length block → here.stands ≡ Stands.More → r ≡ input r.filled false true → take r.filled window' ≡ drop here.taken (take i.filled window) ++ block → Going s bytes (suc k) r window' c'
     unfolding on_by pulled
     goes_more block some e q left =
         let last : r.last ≡ false = ap (λ (z : Input). z.last) q in
-        let going : i.last ≡ false = ((run_goes format i.last (car t m) TEXT-BYTES (take i.filled window)).more e).0 in
+        let going : i.last ≡ false = ((run_goes format i.last c TEXT-BYTES (take i.filled window)).more e).0 in
         record {
           text = g.text ++ here.text;
           read = g.read ++ (block ∷ []);
@@ -120,7 +116,7 @@ module _ {s : Car} {bytes : List ℕ} {k : ℕ} {i : Input} {window : List ℕ} 
           same = λ rest none. rw (append_assoc g.read (block ∷ []) rest) (next_run Stands.More (block ∷ rest) e (λ h. let z : ◌≡◌ {A = ℕ} 0 1 = cc in absurd (omega arith)) ∙ rw (last, left, cars));
         }
 
-    goes_last : here.stands ≡ Stands.More → r ≡ input r.filled true true → take r.filled window' ≡ drop here.taken (take i.filled window) → Going s bytes (suc k) r window' t' m'
+    goes_last : here.stands ≡ Stands.More → r ≡ input r.filled true true → take r.filled window' ≡ drop here.taken (take i.filled window) → Going s bytes (suc k) r window' c'
     unfolding on_by pulled
     goes_last e q left =
         let last : r.last ≡ true = ap (λ (z : Input). z.last) q in
@@ -133,10 +129,10 @@ module _ {s : Car} {bytes : List ℕ} {k : ℕ} {i : Input} {window : List ℕ} 
 
     -- ---- no run follows
     -- the text could not be written: the table is the run's all the same
-    stops_unwritten : r ≡ input 0 true false → Serves s bytes r.filled window' t' m'
+    stops_unwritten : r ≡ input 0 true false → Serves s bytes r.filled window' c'
     stops_unwritten q =
         let made = next_run here.stands [] refl (λ h. refl) in
-        let x = serving i.last (car t m) (take i.filled window) [] in
+        let x = serving i.last c (take i.filled window) [] in
         let same_car : (after format TEXT-BYTES (suc k) (serving false s bytes (g.read ++ []))).at.car ≡ here.car = ap (λ (p : Progress). p.at.car) made ∙ by_car here.stands here g.text x in
         let none : r.filled ≡ 0 = ap (λ (z : Input). z.filled) q in
         record {
@@ -146,70 +142,67 @@ module _ {s : Car} {bytes : List ℕ} {k : ℕ} {i : Input} {window : List ℕ} 
           end = after format TEXT-BYTES (suc k) (serving false s bytes (g.read ++ []));
           same = refl;
           all_read = ap (λ (p : Progress). p.at.blocks) made ∙ by_none here.stands here g.text x refl;
-          table = table ∙ sym (ap (λ (c : Car). c.table) same_car);
-          whole = whole ∙ sym (ap (λ (c : Car). c.whole) same_car);
+          car = left_car ∙ sym same_car;
           stops = Stops.unwritten none;
           fits = omega arith;
         }
 
-    stops_ended : here.stands ≡ Stands.Ended → r.filled ≤ WINDOW-BYTES → take r.filled window' ≡ drop here.taken (take i.filled window) → Serves s bytes r.filled window' t' m'
+    stops_ended : here.stands ≡ Stands.Ended → r.filled ≤ WINDOW-BYTES → take r.filled window' ≡ drop here.taken (take i.filled window) → Serves s bytes r.filled window' c'
     unfolding on_by
     stops_ended e h left = record {
       blocks = g.read ++ [];
       gave = more_gave g.read [] g.gave none_gave;
       runs = suc k;
-      end = on_by Stands.Ended here g.text (serving i.last (car t m) (take i.filled window) []);
+      end = on_by Stands.Ended here g.text (serving i.last c (take i.filled window) []);
       same = next_run Stands.Ended [] e (λ _. refl);
       all_read = refl;
-      table = table;
-      whole = whole;
+      car = left_car;
       stops = Stops.ended refl left;
       fits = h;
     }
 
   -- ---- a turn
-  module _ {turns : ℕ} (counted : k + suc turns ≡ RUNS) {r : Input} {window' before now : List ℕ} {t' : List Float} {m' : List ℕ} (p : Turned here (take i.filled window) i.last r window' before now t' m') where
-    on_again : r.runs ≡ true → Going s bytes (suc k) r window' t' m' → Loop s bytes turns r window' t' m'
-    on_again on g' = record { fits = p.fits; k = suc k; counted = omega arith; goes = λ _. g'; stopped = λ e. let z : ◌≡◌ {A = ℕ} 0 1 = cc in absurd (omega arith) }
+  module _ {r : Input} {window' text : List ℕ} {c' : Car} (p : Turned here (take i.filled window) i.last r window' text c') where
+    on_again : r.runs ≡ true → Going s bytes (suc k) r window' c' → Loop s bytes (suc k) r window' c'
+    on_again on g' = record { fits = p.fits; goes = λ _. g'; stopped = λ e. let z : ◌≡◌ {A = ℕ} 0 1 = cc in absurd (omega arith) }
 
-    no_more_runs : r.runs ≡ false → Serves s bytes r.filled window' t' m' → Loop s bytes turns r window' t' m'
-    no_more_runs off q = record { fits = p.fits; k = suc k; counted = omega arith; goes = λ e. let z : ◌≡◌ {A = ℕ} 0 1 = cc in absurd (omega arith); stopped = λ _. q }
+    no_more_runs : r.runs ≡ false → Serves s bytes r.filled window' c' → Loop s bytes (suc k) r window' c'
+    no_more_runs off q = record { fits = p.fits; goes = λ e. let z : ◌≡◌ {A = ℕ} 0 1 = cc in absurd (omega arith); stopped = λ _. q }
 
-    by_follows : Follows here (take i.filled window) i.last r window' → Loop s bytes turns r window' t' m'
-    by_follows (Follows.unwritten q) = no_more_runs (ap (λ (z : Input). z.runs) q) (stops_unwritten r window' p.table p.whole q)
-    by_follows (Follows.ended e q left) = no_more_runs (ap (λ (z : Input). z.runs) q) (stops_ended r window' p.table p.whole e p.fits left)
-    by_follows (Follows.full e q left) = on_again (ap (λ (z : Input). z.runs) q) (goes_full r window' p.table p.whole e q left)
-    by_follows (Follows.more e q block some left) = on_again (ap (λ (z : Input). z.runs) q) (goes_more r window' p.table p.whole block some e q left)
-    by_follows (Follows.no_more e q left) = on_again (ap (λ (z : Input). z.runs) q) (goes_last r window' p.table p.whole e q left)
+    by_follows : Follows here (take i.filled window) i.last r window' → Loop s bytes (suc k) r window' c'
+    by_follows (Follows.unwritten q) = no_more_runs (ap (λ (z : Input). z.runs) q) (stops_unwritten r window' p.car q)
+    by_follows (Follows.ended e q left) = no_more_runs (ap (λ (z : Input). z.runs) q) (stops_ended r window' p.car e p.fits left)
+    by_follows (Follows.full e q left) = on_again (ap (λ (z : Input). z.runs) q) (goes_full r window' p.car e q left)
+    by_follows (Follows.more e q block some left) = on_again (ap (λ (z : Input). z.runs) q) (goes_more r window' p.car block some e q left)
+    by_follows (Follows.no_more e q left) = on_again (ap (λ (z : Input). z.runs) q) (goes_last r window' p.car e q left)
 
 -- a turn from where the loop stands
-pub one_turn : {s : Car} {bytes : List ℕ} {turns left : ℕ} {i r : Input} {window window' before now : List ℕ} {t t' : List Float} {m m' : List ℕ} → Loop s bytes turns i window t m → i.runs ≡ true → turns ≡ suc left
-    → Turned (run_of format i.last (car t m) TEXT-BYTES (take i.filled window)) (take i.filled window) i.last r window' before now t' m' → Loop s bytes left r window' t' m'
-one_turn l on e p = by_follows (l.goes on) (rw e at l.counted) p p.follows
+pub one_turn : {s : Car} {bytes : List ℕ} {k : ℕ} {i r : Input} {window window' text : List ℕ} {c c' : Car} → Loop s bytes k i window c → i.runs ≡ true
+    → Turned (run_of format i.last c TEXT-BYTES (take i.filled window)) (take i.filled window) i.last r window' text c' → Loop s bytes (suc k) r window' c'
+one_turn l on p = by_follows (l.goes on) p p.follows
 
 -- the turns are used up
-pub loop_ends : {s : Car} {bytes : List ℕ} {turns : ℕ} {i : Input} {window : List ℕ} {t : List Float} {m : List ℕ} → Loop s bytes turns i window t m → turns ≡ 0 → Serves s bytes i.filled window t m
-loop_ends {s} {bytes} {turns} {i} {window} {t} {m} l none = go i.runs refl
+pub loop_ends : {s : Car} {bytes : List ℕ} {k : ℕ} {i : Input} {window : List ℕ} {c : Car} → Loop s bytes k i window c → k ≡ RUNS → Serves s bytes i.filled window c
+loop_ends {s} {bytes} {k} {i} {window} {c} l all = go i.runs refl
   where
-    go : (b : Bool) → i.runs ≡ b → Serves s bytes i.filled window t m
+    go : (b : Bool) → i.runs ≡ b → Serves s bytes i.filled window c
     go false e = l.stopped e
     go true e =
         let g = l.goes e in
         record {
           blocks = g.read ++ [];
           gave = more_gave g.read [] g.gave none_gave;
-          runs = l.k;
-          end = progress g.text (serving i.last (car t m) (take i.filled window) []) false;
+          runs = k;
+          end = progress g.text (serving i.last c (take i.filled window) []) false;
           same = g.same [] (λ _. refl);
           all_read = refl;
-          table = refl;
-          whole = refl;
-          stops = Stops.used_up (omega (arith, l.counted)) refl;
+          car = refl;
+          stops = Stops.used_up all refl;
           fits = l.fits;
         }
 
 -- the first line could not be written
-pub starts_unwritten : {s : Car} {bytes window : List ℕ} {t : List Float} {m : List ℕ} → car t m ≡ s → Serves s bytes 0 window t m
+pub starts_unwritten : {s : Car} {bytes window : List ℕ} {c : Car} → c ≡ s → Serves s bytes 0 window c
 unfolding after
 starts_unwritten {s} {bytes} e = record {
   blocks = [];
@@ -218,8 +211,7 @@ starts_unwritten {s} {bytes} e = record {
   end = progress [] (serving false s bytes []) false;
   same = refl;
   all_read = refl;
-  table = ap (λ (c : Car). c.table) e;
-  whole = ap (λ (c : Car). c.whole) e;
+  car = e;
   stops = Stops.unwritten refl;
   fits = omega arith;
 }

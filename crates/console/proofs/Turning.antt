@@ -1,4 +1,4 @@
--- Laws on a turn. In order: what a step leaves in the window and in the buffer; what is read on follows the run. Assumes nothing.
+-- Laws on a turn. In order: what a step leaves in the window; what is read on follows the run. Assumes nothing.
 use Prim.Native.Nat.{ℕ, ◌+◌, ◌-◌, ◌≤◌, ◌<◌}
 use mathlib.Core.Bool.{Bool, true, false}
 use mathlib.Core.List.{List, ◌++◌}
@@ -6,11 +6,9 @@ use mathlib.Core.Path.{◌≡◌, refl, sym, ap, ◌∙◌}
 use native.Mathlib.Omega.{arith}
 use borrow.Author.Tests.{eqb-true, eqb-false}
 use lib.Dec.{eqb}
-use lib.Ieee.{Float}
 use lib.ListN.{length, take, drop, length-drop}
 use lib.Seq.{take-add, length-take-le}
-use Rattle.lists.specs.Puts.{Puts}
-use Rattle.turns.proofs.Lent.{lent_front}
+use Rattle.perform.specs.declared.Car.{Car}
 use Rattle.session.specs.declared.Stands.{Stands}
 use Rattle.session.specs.declared.Step.{Step}
 use Rattle.session.specs.Runs.{Ran, Steps}
@@ -18,12 +16,6 @@ use Rattle.session.proofs.Stepping.{step_leaves}
 use Rattle.console.specs.declared.Input.{Input}
 use Rattle.console.specs.Reading.{Fills, input, ReadsOn}
 use Rattle.console.specs.Turning.{Follows}
-
--- what was put at a buffer's start is read back
-pub text_at : {before after text : List ℕ} {at : ℕ} → Puts before after 0 at text → take at after ≡ text
-text_at {before} {after} {text} {at} p =
-    let count : at ≡ length text = omega (arith, p.end) in
-    rw count (lent_front before after text p.put)
 
 -- bytes that were read stand behind those that were there
 fills_behind : {n k : ℕ} {before after : List ℕ} → Fills n k before after → take k after ≡ take n before ++ take (k - n) (drop n after)
@@ -38,7 +30,7 @@ fills_some {n} {k} {before} {after} p h =
     let count = length-take-le (k - n) (drop n after) inside in
     omega (arith, p.from, h)
 
-module _ {x : Ran} {bytes : List ℕ} {s : Step} {first window before after : List ℕ} {t : List Float} {m : List ℕ} (p : Steps x bytes s first window before after t m) (last : Bool) (r : Input) (window' : List ℕ) where
+module _ {x : Ran} {bytes : List ℕ} {s : Step} {first window text : List ℕ} {c : Car} (p : Steps x bytes s first window text c) (last : Bool) (r : Input) (window' : List ℕ) where
   read_more : (b : Bool) → x.stands ≡ Stands.More → eqb r.filled s.filled ≡ b → r ≡ input r.filled (eqb r.filled s.filled) true → Fills s.filled r.filled window window' → Follows x bytes last r window'
   read_more true e h q fills =
       let none : r.filled ≡ s.filled = eqb-true r.filled s.filled h in

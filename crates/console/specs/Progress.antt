@@ -2,7 +2,7 @@
 use Rattle.std.specs.Prelude.{ℕ, zero, suc, Bool, true, false, List, [], ◌++◌, drop}
 use Rattle.std.specs.Float.{Format}
 use Rattle.lists.specs.Pick.{pick}
-use Rattle.turns.specs.Car.{Car}
+use Rattle.perform.specs.declared.Car.{Car}
 use Rattle.session.specs.declared.Stands.{Stands}
 use Rattle.session.specs.Runs.{Ran, run_of}
 use Rattle.session.specs.Served.{Serving, pulled}

@@ -1,8 +1,8 @@
 -- The program as it was run: over the blocks that were read, whichever they were. Definitions only.
-use Rattle.std.specs.Prelude.{ℕ, ◌≤◌, Bool, true, false, List, [], ◌≡◌, ltb, Float, length, take}
+use Rattle.std.specs.Prelude.{ℕ, ◌≤◌, Bool, true, false, List, [], ◌≡◌, ltb, length, take}
 use Rattle.lists.specs.All.{all}
 use Rattle.scenario.specs.Format.{format}
-use Rattle.turns.specs.Car.{Car}
+use Rattle.perform.specs.declared.Car.{Car}
 use Rattle.session.specs.Layout.{WINDOW-BYTES, TEXT-BYTES}
 use Rattle.console.specs.Progress.{Progress, serving, after}
 
@@ -21,14 +21,13 @@ abbrev pub given : List ℕ → Bool
 given b = ltb 0 (length b)
 
 -- The program went on from a car and the bytes of a window: there are blocks, those that were read, over which so many runs leave it so.
-pub record Serves (s : Car) (bytes : List ℕ) (r : ℕ) (window : List ℕ) (t : List Float) (m : List ℕ) : Type 0 where
+pub record Serves (s : Car) (bytes : List ℕ) (r : ℕ) (window : List ℕ) (c : Car) : Type 0 where
   pub blocks : List (List ℕ)
   pub gave : all given blocks ≡ true
   pub runs : ℕ
   pub end : Progress
   pub same : after format TEXT-BYTES runs (serving false s bytes blocks) ≡ end
   pub all_read : end.at.blocks ≡ []
-  pub table : t ≡ end.at.car.table
-  pub whole : m ≡ end.at.car.whole
+  pub car : c ≡ end.at.car
   pub stops : Stops end runs r window
   pub fits : r ≤ WINDOW-BYTES

@@ -1,6 +1,6 @@
 -- A turn of the program: a run over the window's bytes, and what follows it. Definitions only.
-use Rattle.std.specs.Prelude.{ℕ, ◌≤◌, ◌<◌, Bool, true, false, List, ◌++◌, ◌≡◌, Float, length, take, drop}
-use Rattle.lists.specs.Puts.{Puts}
+use Rattle.std.specs.Prelude.{ℕ, ◌≤◌, ◌<◌, Bool, true, false, List, ◌++◌, ◌≡◌, length, take, drop}
+use Rattle.perform.specs.declared.Car.{Car}
 use Rattle.session.specs.declared.Stands.{Stands}
 use Rattle.session.specs.Layout.{WINDOW-BYTES}
 use Rattle.session.specs.Runs.{Ran}
@@ -15,11 +15,9 @@ pub data Follows (x : Ran) (bytes : List ℕ) (last : Bool) (r : Input) (window 
   more : x.stands ≡ Stands.More → r ≡ input r.filled false true → (block : List ℕ) → 0 < length block → take r.filled window ≡ drop x.taken bytes ++ block → Follows x bytes last r window
   no_more : x.stands ≡ Stands.More → r ≡ input r.filled true true → take r.filled window ≡ drop x.taken bytes → Follows x bytes last r window
 
--- a turn is taken: the table and the whole numbers are the run's, and so is the text at the start of the buffer
-pub record Turned (x : Ran) (bytes : List ℕ) (last : Bool) (r : Input) (window before after : List ℕ) (t : List Float) (m : List ℕ) : Type 0 where
-  pub at : ℕ
-  pub puts : Puts before after 0 at x.text
-  pub table : t ≡ x.car.table
-  pub whole : m ≡ x.car.whole
+-- a turn is taken: the car and the text are the run's
+pub record Turned (x : Ran) (bytes : List ℕ) (last : Bool) (r : Input) (window printed : List ℕ) (c : Car) : Type 0 where
+  pub text : printed ≡ x.text
+  pub car : c ≡ x.car
   pub follows : Follows x bytes last r window
   pub fits : r.filled ≤ WINDOW-BYTES

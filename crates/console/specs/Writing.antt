@@ -2,7 +2,7 @@
 use Rattle.std.specs.Prelude.{ℕ, Bool, List, ◌≡◌}
 use Rattle.lines.specs.Line.{title}
 use Rattle.scenario.specs.Format.{format}
-use Rattle.turns.specs.Car.{Car}
+use Rattle.perform.specs.declared.Car.{Car}
 use Rattle.session.specs.Layout.{TEXT-BYTES}
 use Rattle.session.specs.Runs.{run_of}
 

@@ -6,7 +6,6 @@
 ghost use Rattle.std.specs.Prelude.{◌↔◌, ◌≤◌, ◌≡◌, IfErr, IsTrue, length, take};
 ghost use Rattle.std.specs.IoError.{error_kind};
 ghost use Rattle.scenario.specs.Format.{format};
-ghost use Rattle.turns.specs.Car.{car};
 ghost use Rattle.session.specs.Layout as layout;
 ghost use Rattle.session.specs.Program.{start_car};
 ghost use Rattle.session.specs.Runs.{run_of};
@@ -15,10 +14,11 @@ ghost use Rattle.console.specs.Writing.{Printed};
 ghost use Rattle.console.specs.Turning.{Turned};
 ghost use Rattle.console.specs.Serves.{Serves};
 
+use lines::text::Text;
+use perform::Car;
 use session::layout::{TEXT_BYTES, WINDOW_BYTES};
 use session::{Stands, Step};
 use std::io::{self, ErrorKind, Read, Write};
-use table::layout::{SIZE, WHOLE};
 
 // Where the reading stands: how many bytes are in the window, whether the input has ended, and whether the program runs on.
 #[derive(Clone, Copy)]
@@ -42,20 +42,6 @@ fn print<W: Write>(writer: &mut W, text: &[u8]) -> bool
     writer.write_all(text).is_ok()
 }
 
-// Writes the first bytes of a buffer, which are such a text.
-fn write_first<W: Write>(writer: &mut W, out: &[u8], at: usize) -> bool
-    requires { (at ≤ length out.now) × Printed (take at out.now) }
-{
-    print(writer, &out[..at])
-}
-
-// The same, where the buffer's length is known.
-fn write_text<W: Write>(writer: &mut W, out: &[u8; TEXT_BYTES], at: usize) -> bool
-    requires { (at ≤ layout.TEXT-BYTES) × Printed (take at out.now) }
-{
-    write_first(writer, out, at)
-}
-
 // Whether a read that answered so was interrupted by a signal before it had any byte.
 fn is_interrupted(got: &io::Result<usize>) -> bool
     ensures moved { Interrupted got.now result }
@@ -68,34 +54,26 @@ fn is_interrupted(got: &io::Result<usize>) -> bool
 }
 
 // Reads what comes next, and answers how many bytes: none at the end of the input, or where it cannot be read. An interrupted read is no end: it is made
-// again, and since a proved loop has to end, the tries are counted down from a number that no run uses up.
+// again, and since a proved loop has to end, the tries are counted, up to a number that no run uses up.
 fn read_some<R: Read>(reader: &mut R, free: &mut [u8]) -> usize
     ensures { (result ≤ length free.old) × (length free.new ≡ length free.old) }
 {
-    let mut got = reader.read(free);
-    let mut tries = u64::MAX;
-    while tries > 0 && is_interrupted(&got) {
-        tries -= 1u64;
-        got = reader.read(free);
+    for _ in 0..u64::MAX {
+        let got = reader.read(free);
+        if !is_interrupted(&got) {
+            return got.unwrap_or(0);
+        }
     }
-    got.unwrap_or(0)
+    0
 }
 
-// Reads behind the first bytes of a window, and answers how many it has then.
-fn read_behind<R: Read>(reader: &mut R, window: &mut [u8], filled: usize) -> usize
-    requires { filled ≤ length window.old }
-    ensures { Fills filled result window.old window.new }
-{
-    let n = read_some(reader, &mut window[filled..]);
-    filled + n
-}
-
-// The same, where the window's length is known.
+// Reads behind the first bytes of the window, and answers how many it has then.
 pub fn fill<R: Read>(reader: &mut R, window: &mut [u8; WINDOW_BYTES], filled: usize) -> usize
     requires { filled ≤ layout.WINDOW-BYTES }
     ensures { Fills filled result window.old window.new × (result ≤ layout.WINDOW-BYTES) }
 {
-    read_behind(reader, window, filled)
+    let n = read_some(reader, &mut window[filled..]);
+    filled + n
 }
 
 // Reads behind the window's first bytes. A read that gives nothing is the last one.
@@ -131,39 +109,38 @@ fn turn<R: Read, W: Write>(
     writer: &mut W,
     window: &mut [u8; WINDOW_BYTES],
     input: Input,
-    table: &mut [f32; SIZE],
-    whole: &mut [u32; WHOLE],
-    out: &mut [u8; TEXT_BYTES],
+    car: &mut Car,
+    text: &mut Text<TEXT_BYTES>,
 ) -> Input
     requires { input.filled ≤ layout.WINDOW-BYTES }
-    ensures { Turned (run_of format input.last (car table.old whole.old) layout.TEXT-BYTES (take input.filled window.old)) (take input.filled window.old) input.last result window.new out.old out.new table.new whole.new }
+    ensures { Turned (run_of format input.last car.old layout.TEXT-BYTES (take input.filled window.old)) (take input.filled window.old) input.last result window.new text.new car.new }
 {
-    let step = session::window::step(window, input.filled, input.last, table, whole, out);
-    if !write_text(writer, out, step.at) {
+    let step = session::window::step(window, input.filled, input.last, car, text);
+    if !print(writer, text.as_bytes()) {
         return standing(0, true, false);
     }
     read_on(reader, window, step, input.last)
 }
 
 // Takes turns from a window with so many bytes until the program ends, and answers how many bytes are left at the window's start: a code 0 that ended it
-// is the first. A proved loop has to end, and nothing says that a stream does: the turns are counted down from a number that no run uses up.
+// is the first. A proved loop has to end, and nothing says that a stream does: the turns are counted, up to a number that no run uses up.
 fn serve<R: Read, W: Write>(
     reader: &mut R,
     writer: &mut W,
     window: &mut [u8; WINDOW_BYTES],
     filled: usize,
-    table: &mut [f32; SIZE],
-    whole: &mut [u32; WHOLE],
-    out: &mut [u8; TEXT_BYTES],
+    car: &mut Car,
+    text: &mut Text<TEXT_BYTES>,
 ) -> usize
     requires { filled ≤ layout.WINDOW-BYTES }
-    ensures { Serves (car table.old whole.old) (take filled window.old) result window.new table.new whole.new }
+    ensures { Serves car.old (take filled window.old) result window.new car.new }
 {
     let mut input = standing(filled, false, true);
-    let mut turns = u64::MAX;
-    while turns > 0 && input.runs {
-        turns -= 1u64;
-        input = turn(reader, writer, window, input, table, whole, out);
+    for _ in 0..u64::MAX {
+        if !input.runs {
+            break;
+        }
+        input = turn(reader, writer, window, input, car, text);
     }
     input.filled
 }
@@ -175,16 +152,16 @@ pub fn run<R: Read, W: Write>(
     writer: &mut W,
     window: &mut [u8; WINDOW_BYTES],
     filled: usize,
-    table: &mut [f32; SIZE],
-    whole: &mut [u32; WHOLE],
-    out: &mut [u8; TEXT_BYTES],
+    car: &mut Car,
+    text: &mut Text<TEXT_BYTES>,
 ) -> usize
     requires { filled ≤ layout.WINDOW-BYTES }
-    ensures { Serves start_car (take filled window.old) result window.new table.new whole.new }
+    ensures { Serves start_car (take filled window.old) result window.new car.new }
 {
-    let at = session::start::start(table, whole, out);
-    if !write_text(writer, out, at) {
-        return 0;
+    session::start::start(car, text);
+    if print(writer, text.as_bytes()) {
+        serve(reader, writer, window, filled, car, text)
+    } else {
+        0
     }
-    serve(reader, writer, window, filled, table, whole, out)
 }

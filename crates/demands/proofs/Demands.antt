@@ -50,8 +50,7 @@ use Rattle.refusals.proofs.Settled.{settled_refused, settled_number}
 use Rattle.set_up.specs.SetUp.{set_up, refuse_set_up}
 use Rattle.add_wheel.specs.Add.{add_wheel, refuse_add}
 use Rattle.set_controls.specs.Controls.{set_controls, refuse_controls}
-use Rattle.read_wheel.specs.declared.Reading.{Reading}
-use Rattle.read_wheel.specs.Read.{read_wheel, refuse_read, not_read, reading_of}
+use Rattle.read_wheel.specs.Read.{ReadReply, read_wheel, refuse_read, not_read, reading_of}
 use Rattle.read_wheel.proofs.Accepted.{read_says}
 use Rattle.aim.specs.Aim.{aim_of, refuse_aim, not_aimed, aimed_by, aimed_table}
 use Rattle.passes.specs.Passes.{stored}
@@ -243,16 +242,16 @@ module _ (f : Format) (lent : State) (up forward : ℕ) (l : List Call) (set-up 
 module _ (f : Format) (d : Step) (i : ℕ) (passed : Accepted f d) (counted : i < d.n) where
   -- each wheel can be read straight after it, and the read is that of the wheel as the drive left it
   pub driven_is_read : (read_after_drive f d i).reply ≡ reading_of f (driven_wheel f d i)
-  driven_is_read = ap (λ (x : After Reading). x.reply) (read_after_drive_lem f d i passed counted)
+  driven_is_read = ap (λ (x : After ReadReply). x.reply) (read_after_drive_lem f d i passed counted)
 
   -- the settled centre has the length that rule 4 or 5 gave in this drive; the old one is as the drive found it
   pub settled_after_drive : (read_after_drive f d i).reply.settled ≡ centre_of f (stored_wheel d i).info.hard (stored_wheel d i).place.direction (drive_length f d i)
   unfolding reading_of
-  settled_after_drive = ap (λ (x : Reading). x.settled) driven_is_read ∙ driven_settled f d i passed counted
+  settled_after_drive = ap (λ (x : ReadReply). x.settled) driven_is_read ∙ driven_settled f d i passed counted
 
   pub centre_after_drive : (read_after_drive f d i).reply.centre ≡ (stored_wheel d i).place.centre
   unfolding reading_of
-  centre_after_drive = ap (λ (x : Reading). x.centre) driven_is_read ∙ ap (λ (x : Place). x.centre) (driven_place f d i passed counted)
+  centre_after_drive = ap (λ (x : ReadReply). x.centre) driven_is_read ∙ ap (λ (x : Place). x.centre) (driven_place f d i passed counted)
 
   -- every accepted read from then on gives what that one gave, until the next accepted set-up, add, aim or drive
   pub read_until_next : (l : List Call) → quiet f l (after_drive f d) ≡ true → accepted f (ReadWheel i) (run_all f l (after_drive f d)) ≡ true
@@ -261,19 +260,19 @@ module _ (f : Format) (d : Step) (i : ℕ) (passed : Accepted f d) (counted : i 
   read_until_next l q h =
       let now = run_all f l (after_drive f d) in
       let z : refuse_read now.table now.whole i ≡ 0 = sym (read_number f now.table now.whole i) ∙ eqb-true _ 0 h in
-      ap (λ (x : After Reading). x.reply) (read_done f now.table now.whole i z)
+      ap (λ (x : After ReadReply). x.reply) (read_done f now.table now.whole i z)
       ∙ quiet_stays f l (after_drive f d) i (shape_after_drive f d i passed counted) q
       ∙ sym driven_is_read
 
   -- so every one gives that settled centre
   pub settled_until_next : (l : List Call) → quiet f l (after_drive f d) ≡ true → accepted f (ReadWheel i) (run_all f l (after_drive f d)) ≡ true
       → (read_wheel f (run_all f l (after_drive f d)).table (run_all f l (after_drive f d)).whole i).reply.settled ≡ (read_after_drive f d i).reply.settled
-  settled_until_next l q h = ap (λ (x : Reading). x.settled) (read_until_next l q h)
+  settled_until_next l q h = ap (λ (x : ReadReply). x.settled) (read_until_next l q h)
 
 -- It is not stored, and no refusal looks at it: it needs none, since no accepted read gives a NaN or an infinity there.
 pub settled_is_finite : (f : Format) (t : List Float) (m : List ℕ) (i : ℕ) → Held f t → refuse_read t m i ≡ 0 → is_finite (read_wheel f t m i).reply.settled ≡ true
 unfolding reading_of
-settled_is_finite f t m i h z = ap (λ (x : After Reading). is_finite x.reply.settled) (read_done f t m i z) ∙ settled_finite f t m i h z
+settled_is_finite f t m i h z = ap (λ (x : After ReadReply). is_finite x.reply.settled) (read_done f t m i z) ∙ settled_finite f t m i h z
 
 -- The two centres after a drive in a table our calls wrote. Over every history, as above.
 module _ (f : Format) (lent : State) (up forward : ℕ) (l : List Call) (set-up : accepted f (SetUp up forward) lent ≡ true) (r : Frame) (n i : ℕ) where
@@ -296,7 +295,7 @@ module _ (f : Format) (lent : State) (up forward : ℕ) (l : List Call) (set-up 
     -- rule 1's centre, worked out with the length that rule 4 or 5 just gave
     pub settled_is_rule_1 : (read_after_drive f drive i).reply.settled ≡ centre_under f pose (with_length found (drive_length f drive i))
     unfolding reading_of
-    settled_is_rule_1 = ap (λ (x : Reading). x.settled) (driven_is_read f drive i passed counted) ∙ settled_of_placed f drive i passed counted placed
+    settled_is_rule_1 = ap (λ (x : ReadReply). x.settled) (driven_is_read f drive i passed counted) ∙ settled_of_placed f drive i passed counted placed
 
     -- and the old centre, with the length stored so far
     pub centre_is_rule_1 : (read_after_drive f drive i).reply.centre ≡ centre_under f pose found
@@ -306,7 +305,7 @@ module _ (f : Format) (lent : State) (up forward : ℕ) (l : List Call) (set-up 
     pub settled_is_next_centre : (c : Chassis) → c.pose ≡ pose → refuse_aim f (after_drive f drive).table (after_drive f drive).whole c ≡ 0
         → (wheel_at (aim_of f (after_drive f drive).table (after_drive f drive).whole c).table i).place.centre ≡ (read_after_drive f drive i).reply.settled
     unfolding reading_of
-    settled_is_next_centre c same p = next_centre f drive i passed counted placed c same p ∙ sym (ap (λ (x : Reading). x.settled) (driven_is_read f drive i passed counted))
+    settled_is_next_centre c same p = next_centre f drive i passed counted placed c same p ∙ sym (ap (λ (x : ReadReply). x.settled) (driven_is_read f drive i passed counted))
 
 -- ---- Change request 2026-03. "Refuse any hit whose normal's sum of squares lies outside 1 − 2^-10 to 1 + 2^-10, save the zero normal at time 0; the upward normal is held to the same band": the hits of an accepted
 -- drive are those that `normals_ok` accepts, and every theorem above on accepted drives reads over those.

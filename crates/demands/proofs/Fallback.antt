@@ -25,8 +25,7 @@ use Rattle.road.specs.Step.{suspended_of}
 use Rattle.road.proofs.Fallback.{axis_zero, forward_zero, side_of_zero, rolling_of_zero}
 use Rattle.table.specs.Rows.{chassis_at}
 use Rattle.ground.specs.Frame.{grounded_at}
-use Rattle.read_wheel.specs.declared.Reading.{Reading}
-use Rattle.read_wheel.specs.Read.{reading_of}
+use Rattle.read_wheel.specs.Read.{ReadReply, reading_of}
 use Rattle.refusals.specs.After.{After}
 use Rattle.demands.specs.Impulses.{Step, Accepted, Grounded, stored_wheel, driven_wheel, forward_demand, side_demand, forward_impulse, side_impulse, powered_at}
 use Rattle.demands.specs.Settled.{read_after_drive}
@@ -68,18 +67,18 @@ directions_in_lem f d i = rw (cast_keeps_place f (stored_wheel d i).settings.tun
 -- ---- a read after the drive
 module _ (f : Format) (d : Step) (i : ℕ) (accepted : Accepted f d) (counted : i < d.n) where
   read_is : (read_after_drive f d i).reply ≡ reading_of f (driven_wheel f d i)
-  read_is = ap (λ (x : After Reading). x.reply) (read_after_drive_lem f d i accepted counted)
+  read_is = ap (λ (x : After ReadReply). x.reply) (read_after_drive_lem f d i accepted counted)
 
   answers_kept : (driven_wheel f d i).fallbacks ≡ fallbacks_of (grounded_at d.frame.answer i) (record { axis = axis_in f d i; forward = forward_in f d i })
   answers_kept = ap (λ (w : Wheel). w.fallbacks) (driven_of_cast f d i accepted counted) ∙ ap (fallbacks_of (grounded_at d.frame.answer i)) (directions_in_lem f d i)
 
   axis_read : (read_after_drive f d i).reply.noaxis ≡ reads_yes (fallbacks_of (grounded_at d.frame.answer i) (record { axis = axis_in f d i; forward = forward_in f d i })).axis
   unfolding reading_of
-  axis_read = ap (λ (x : Reading). x.noaxis) read_is ∙ ap (λ (b : Fallbacks). reads_yes b.axis) answers_kept
+  axis_read = ap (λ (x : ReadReply). x.noaxis) read_is ∙ ap (λ (b : Fallbacks). reads_yes b.axis) answers_kept
 
   forward_read : (read_after_drive f d i).reply.noforward ≡ reads_yes (fallbacks_of (grounded_at d.frame.answer i) (record { axis = axis_in f d i; forward = forward_in f d i })).forward
   unfolding reading_of
-  forward_read = ap (λ (x : Reading). x.noforward) read_is ∙ ap (λ (b : Fallbacks). reads_yes b.forward) answers_kept
+  forward_read = ap (λ (x : ReadReply). x.noforward) read_is ∙ ap (λ (b : Fallbacks). reads_yes b.forward) answers_kept
 
   pub axis_of_grounded : grounded_at d.frame.answer i ≡ true → (read_after_drive f d i).reply.noaxis ≡ (axis_in f d i).fellback
   unfolding fallbacks_of

@@ -4,6 +4,7 @@ use mathlib.Core.Bool.{Bool, true, false, cond}
 use mathlib.Core.List.{List, [], ◌∷◌, ◌++◌}
 use lib.Dec.{T}
 use lib.ListN.{replicate}
+use Rattle.std.specs.Prelude.{Option}
 use lib.Ieee.{Float, Format, neg, mul, div, le, lt, eq, ne, fits}
 use lib.Ieee.Fits.{cond-fits, add-fits, sub-fits, mul-fits, div-fits}
 use Rattle.real.specs.Number.{zero, one}
@@ -28,7 +29,7 @@ use Rattle.wheel.specs.declared.Steering.TheVariants.{ByRotation, ByAngle}
 use Rattle.wheel.specs.declared.Controls.{Controls}
 use Rattle.wheel.specs.declared.KeptControls.{KeptControls}
 use Rattle.wheel.specs.declared.Directions.{Directions}
-use Rattle.wheel.specs.declared.Ground.{Ground}
+use Rattle.body.specs.declared.GroundBody.{GroundBody}
 use Rattle.wheel.specs.declared.Motion.{Motion}
 use Rattle.wheel.specs.declared.Wheel.{Wheel}
 use Rattle.wheel.specs.declared.RayAnswer.{RayAnswer}
@@ -156,12 +157,12 @@ module _ (f : Format) where
   unfolding rolling_response
   uncut_fits speed sum grounded = div-fits f _ _
 
-  pub rolling_fits : (dt : Float) (chassis : Body) (ground : Ground) (grounded : ℕ) (forward : Vector) (w : Wheel) → T (fits f w.controls.brake) → T (fits f (rolling_demand f dt chassis ground grounded forward w))
+  pub rolling_fits : (dt : Float) (chassis : Body) (ground : Option GroundBody) (grounded : ℕ) (forward : Vector) (w : Wheel) → T (fits f w.controls.brake) → T (fits f (rolling_demand f dt chassis ground grounded forward w))
   unfolding rolling_demand rolling_of
   rolling_fits dt chassis ground grounded forward w b =
       cond-fits f (ne w.controls.engine zero) _ _ (mul-fits f _ _) (braked_fits f w.controls.brake _ b (uncut_fits _ _ grounded))
 
-  pub side_fits : (tuning : WheelTuning) (chassis : Body) (ground : Ground) (axis : Vector) (w : Wheel) → T (fits f (side_demand f tuning chassis ground axis w))
+  pub side_fits : (tuning : WheelTuning) (chassis : Body) (ground : Option GroundBody) (axis : Vector) (w : Wheel) → T (fits f (side_demand f tuning chassis ground axis w))
   unfolding side_demand side_response
   side_fits tuning chassis ground axis w = mul-fits f _ _
 
@@ -169,7 +170,7 @@ module _ (f : Format) where
   unfolding wheel_limit limit_of
   limit_fits tuning dt w = mul-fits f _ _
 
-  pub friction_held : (tuning : WheelTuning) (dt : Float) (chassis : Body) (contact : Bool) (ground : Ground) (grounded : ℕ) (d : Directions) (w : Wheel) → WheelHeld f w
+  pub friction_held : (tuning : WheelTuning) (dt : Float) (chassis : Body) (contact : Bool) (ground : Option GroundBody) (grounded : ℕ) (d : Directions) (w : Wheel) → WheelHeld f w
       → FrictionHeld (friction_of f tuning dt chassis contact ground grounded d w)
   unfolding friction_of with_skid
   friction_held tuning dt chassis true ground grounded d w h =

@@ -7,6 +7,7 @@ use mathlib.Core.Path.{◌≡◌, refl, sym, ap, subst, ◌∙◌}
 use native.Mathlib.Omega.{arith}
 use lib.ListN.{get_or}
 use lib.Dec.{T}
+use Rattle.std.specs.Prelude.{Option}
 use lib.Ieee.{Float, Format, nan, le, lt, ne, is_nan}
 use Rattle.lists.specs.Pick.{pick}
 use Rattle.lists.proofs.Parts.{get_d_part}
@@ -14,7 +15,7 @@ use Rattle.lists.proofs.Picks.{pick_true}
 use Rattle.lists.proofs.Turns.{every_at}
 use Rattle.real.specs.Number.{zero}
 use Rattle.real.specs.Units.{count}
-use Rattle.real.specs.Scalar.{within, not_below_zero}
+use Rattle.real.specs.Scalar.{not_below_zero}
 use Rattle.real.proofs.NotNegative.{zero_le_not_below_zero}
 use Rattle.vector.specs.declared.Vector.{Vector}
 use Rattle.vector.specs.Arithmetic.{dot_v}
@@ -33,7 +34,7 @@ use Rattle.wheel.specs.declared.Settings.{Settings}
 use Rattle.wheel.specs.declared.Wheel.{Wheel}
 use Rattle.wheel.specs.declared.KeptControls.{KeptControls}
 use Rattle.wheel.specs.declared.Fallbacks.{Fallbacks}
-use Rattle.wheel.specs.declared.Ground.{Ground}
+use Rattle.body.specs.declared.GroundBody.{GroundBody}
 use Rattle.wheel.specs.declared.RayAnswer.{RayAnswer}
 use Rattle.wheel.specs.Parts.{with_friction, with_fallbacks, friction_in}
 use Rattle.wheel.specs.Steering.{controls_of}
@@ -52,8 +53,7 @@ use Rattle.refusals.specs.Shape.{up_of}
 use Rattle.refusals.specs.After.{After}
 use Rattle.ranges.proofs.Says.{wheel_says, stored_settings_say, unit_says}
 use Rattle.refusals.proofs.Settled.{settled_done}
-use Rattle.drive.specs.declared.Driven.{Driven}
-use Rattle.drive.specs.Drive.{drive_under, drive_of, refuse_drive, not_driven}
+use Rattle.drive.specs.Drive.{DriveReply, drive_under, drive_of, refuse_drive, not_driven}
 use Rattle.drive.proofs.Accepted.{DriveTested, drive_says}
 use Rattle.demands.specs.Impulses.{Step, Accepted, Stepped, Grounded, stored_wheel, demanding_wheel, driven_wheel, forward_demand, side_demand, grip_limit, forward_impulse, side_impulse, brake_of, powered_at, Alike}
 use Rattle.demands.proofs.Each.{each_of_held, number_fits}
@@ -77,7 +77,7 @@ sprung_at f d i = sprung_wheel f (stored_wheel d i).settings.tuning (chassis_at 
 abbrev pub body_in : Format → Step → Body
 body_in f d = (sprung f stored d.frame d.n d.table).chassis.body
 
-abbrev pub ground_in : Step → ℕ → Ground
+abbrev pub ground_in : Step → ℕ → Option GroundBody
 ground_in d i = ground_under d.frame.bodies d.frame.dynamic (d.frame.answer i)
 
 abbrev pub grounded_in : Step → ℕ
@@ -88,7 +88,7 @@ abbrev pub fallbacks_at : Format → Step → ℕ → Fallbacks
 fallbacks_at f d i = fallbacks_of (grounded_at d.frame.answer i) (directions_of f (sprung_at f d i))
 
 -- its rolling demand before the brake's clamp, from the chassis after the springs, its ground and the number of grounded wheels
-abbrev pub uncut_of : Format → Body → Ground → ℕ → Wheel → Float
+abbrev pub uncut_of : Format → Body → Option GroundBody → ℕ → Wheel → Float
 uncut_of f chassis ground grounded w =
     let ahead = (directions_of f w).forward.vector in
     rolling_response f (dot_v f ahead (relative_velocity f chassis ground w.info.point)) (denominators_of f chassis ground w.info.point ahead) grounded
@@ -105,7 +105,7 @@ module _ (f : Format) (d : Step) (accepted : Accepted f d) where
 
   pub driven_table : (drive_of f d.table d.whole d.frame d.n).table ≡ (whole_step f stored (up_of d.whole) d.frame d.n d.table).table
   unfolding drive_of drive_under refuse_drive
-  driven_table = ap (λ (x : After Driven). x.table) (sym (settled_done _ _ not_driven _ _ d.table d.whole refl accepted refl))
+  driven_table = ap (λ (x : After DriveReply). x.table) (sym (settled_done _ _ not_driven _ _ d.table d.whole refl accepted refl))
 
   module _ (i : ℕ) (counted : i < d.n) where
     -- its impulses and its skid: its demands, rescaled; and those of the wheel alone

@@ -1,6 +1,7 @@
 -- The three demands, and the laws that they rest on.
 pub mod Demands
 pub mod Determined
+pub mod Replied
 pub mod Shapes
 pub mod Sizes
 pub mod Marks

@@ -1,5 +1,5 @@
 -- What a history leaves: the shape that refusal 1 asks for, and the mark that the history says. In order: one call that ends by `settled`; each of the six calls; a list of calls. Assumes nothing.
-use Prim.Native.Nat.{ℕ, zero, ◌+◌, ◌<◌}
+use Prim.Native.Nat.{ℕ, ◌+◌, ◌<◌}
 use mathlib.Core.Bool.{Bool, true, false, not, ◌&&◌, ◌||◌, and-true, and-false}
 use mathlib.Core.List.{List, [], ◌∷◌}
 use mathlib.Core.Path.{◌≡◌, refl, sym, ap, ◌∙◌}

@@ -5,6 +5,7 @@ use Prim.Native.Nat.{ℕ}
 use mathlib.Core.Bool.{true, false, not}
 use mathlib.Core.Path.{◌≡◌, refl, sym, ap, ◌∙◌}
 use lib.Dec.{T}
+use Rattle.std.specs.Prelude.{Option}
 use lib.Ieee.{Float, Format, lt, le, eq, ne, is_nan, fits}
 use Rattle.real.specs.Number.{zero}
 use Rattle.body.specs.declared.Body.{Body}
@@ -13,7 +14,7 @@ use Rattle.tyre.specs.declared.WheelTuning.{WheelTuning}
 use Rattle.tyre.specs.Grip.{braked_of}
 use Rattle.tyre.specs.MoreBrake.{BrakesNoLess}
 use Rattle.tyre.proofs.MoreBrake.{more_brake, equal_brake}
-use Rattle.wheel.specs.declared.Ground.{Ground}
+use Rattle.body.specs.declared.GroundBody.{GroundBody}
 use Rattle.wheel.specs.declared.RayAnswer.{RayAnswer}
 use Rattle.wheel.specs.declared.RayAnswer.TheVariants.{Nothing, Hit, HitUp}
 use Rattle.wheel.specs.declared.Wheel.{Wheel}
@@ -42,7 +43,7 @@ contact_alike f tuning kept kept' (Hit time normal named) w brake = (refl, refl)
 contact_alike f tuning kept kept' (HitUp time normal upward named) w brake = (refl, refl)
 
 -- what a brake cuts looks at the wheel's contact and place alone
-uncut_of_contact : (f : Format) (chassis : Body) (ground : Ground) (grounded : ℕ) (w v : Wheel) → w.info ≡ v.info → w.place ≡ v.place → uncut_of f chassis ground grounded w ≡ uncut_of f chassis ground grounded v
+uncut_of_contact : (f : Format) (chassis : Body) (ground : Option GroundBody) (grounded : ℕ) (w v : Wheel) → w.info ≡ v.info → w.place ≡ v.place → uncut_of f chassis ground grounded w ≡ uncut_of f chassis ground grounded v
 unfolding directions_of
 uncut_of_contact f chassis ground grounded w v p q = rw (p, q)
 
@@ -66,7 +67,7 @@ module _ {f : Format} {d e : Step} {i : ℕ} (a : AlikeButForBrake f d e i) wher
       ∙ ap (λ (w : Wheel). uncut_of f (body_in f d) (ground_in d i) (grounded_in d) (sprung_wheel f w.settings.tuning kept (d.frame.answer i) w)) a.own_row
       ∙ ap (λ (r : RayAnswer). uncut_of f (body_in f d) (ground_in d i) (grounded_in d) (sprung_wheel f (stored_wheel e i).settings.tuning kept r (stored_wheel e i))) a.own_hit
       ∙ ap (λ (b : Body). uncut_of f b (ground_in d i) (grounded_in d) (sprung_at f e i)) body
-      ∙ ap (λ (u : Ground). uncut_of f (body_in f e) u (grounded_in d) (sprung_at f e i)) a.own_ground
+      ∙ ap (λ (u : Option GroundBody). uncut_of f (body_in f e) u (grounded_in d) (sprung_at f e i)) a.own_ground
       ∙ ap (λ (k : ℕ). uncut_of f (body_in f e) (ground_in e i) k (sprung_at f e i)) a.same_grounded_wheels
 
   -- the other wheel is grounded and unpowered too: its hit and its engine force are the same

@@ -31,8 +31,7 @@ use Rattle.refusals.specs.After.{After, after, marked}
 use Rattle.refusals.proofs.Says.{Shape}
 use Rattle.refusals.proofs.Settled.{settled_done}
 use Rattle.read_wheel.specs.Read.{refuse_read, not_read, reading_of, read_wheel}
-use Rattle.aim.specs.declared.Aimed.{Aimed}
-use Rattle.aim.specs.Aim.{aim_of, refuse_aim, aimed_table}
+use Rattle.aim.specs.Aim.{AimReply, aim_of, refuse_aim, aimed_table}
 use Rattle.aim.proofs.Accepted.{aim_says}
 use Rattle.drive.specs.Drive.{drive_of}
 use Rattle.demands.specs.Update.{Placed}
@@ -78,7 +77,7 @@ aimed_centre : (f : Format) (c : Chassis) (t : List Float) (m : List ℕ) (i : �
 unfolding aimed_table transforms transform_at
 aimed_centre f c t m i p used =
     let a = (aim_says f t m c p).shape in
-    ap (λ (x : After Aimed). (wheel_at x.table i).place.centre) (aimed_is f t m c p)
+    ap (λ (x : After AimReply). (wheel_at x.table i).place.centre) (aimed_is f t m c p)
     ∙ ap (λ (x : Wheel). x.place.centre) (wheel_each (transform_at f c.pose) (count_of m) (put_chassis t c) (length_keep t c a.sized) a.room i used)
     ∙ ap (centre_under f c.pose) (wheel_stays t c i)
 

@@ -10,14 +10,13 @@ use lib.IntN.{pos}
 use lib.Ieee.{Float, nan, inf, fin, Format, binary32, binary64, is_nan, fits, mul, lt, le, eq, ne, neg}
 use lib.Ieee.Scale.{finite}
 use lib.ListN.{length, set, length-set}
-use Rattle.real.specs.Number.{zero, one, two}
+use Rattle.real.specs.Number.{zero, two}
 use Rattle.real.specs.Scalar.{within, reads_yes}
 use Rattle.real.proofs.NotZero.{finite_of_add, finite_of_square}
-use Rattle.real.proofs.Nought.{Nought, mul_nought_right, zero_of_nought}
+use Rattle.real.proofs.Nought.{mul_nought_right, zero_of_nought}
 use Rattle.vector.specs.declared.Vector.{Vector}
-use Rattle.vector.specs.declared.Rotation.{Rotation}
 use Rattle.vector.specs.Arithmetic.{scale_v}
-use Rattle.angle.specs.Angle.{half_of, sine_of, cosine_of}
+use Rattle.angle.specs.Angle.{half_of}
 use Rattle.angle.proofs.Taylor.{sine_of_zero, cosine_of_zero}
 use Rattle.body.specs.declared.Chassis.{Chassis}
 use Rattle.wheel.specs.declared.Steering.{Steering}
@@ -27,7 +26,7 @@ use Rattle.wheel.specs.declared.KeptSteering.{KeptSteering}
 use Rattle.wheel.specs.declared.KeptControls.{KeptControls}
 use Rattle.wheel.specs.declared.Wheel.{Wheel}
 use Rattle.wheel.specs.Parts.{with_controls}
-use Rattle.wheel.specs.Steering.{kept_steering, steering_of, kept_controls, controls_of, steering_axis, rotation_from_angle, steering_rotation}
+use Rattle.wheel.specs.Steering.{kept_steering, steering_of, kept_controls, controls_of, rotation_from_angle, steering_rotation}
 use Rattle.wheel.specs.Ray.{update_wheel_transform}
 use Rattle.table.specs.Layout as at
 use Rattle.table.specs.Rows.{wheel_at, put_wheel, chassis_at, put_chassis}
@@ -55,12 +54,12 @@ use Rattle.drive.specs.Drive.{drive_under, drive_of, refuse_drive}
 use Rattle.drive.proofs.Accepted.{drive_says}
 use Rattle.demands.specs.History.{State, Call, SetUp, AddWheel, SetControls, Aim, Drive, ReadWheel, answered, accepted, run, run_all}
 use Rattle.demands.specs.Held.{Held}
-use Rattle.demands.specs.Fallback.{IsZero, IsZeroV}
+use Rattle.demands.specs.Fallback.{IsZero}
 use Rattle.demands.specs.Steered.{direction_under, axle_under, TurnsNothing, steers, none_steers}
 use Rattle.demands.proofs.Shapes.{count_marked, count_counted}
 use Rattle.demands.proofs.Marks.{settled_has, left_by}
 use Rattle.demands.proofs.Stored.{unaimed_count}
-use Rattle.demands.proofs.Quiet.{not_true, both_true}
+use Rattle.demands.proofs.Quiet.{both_true}
 use Rattle.demands.proofs.Each.{each_of_held}
 use Rattle.demands.proofs.HeldCalls.{wheel_at_held}
 use Rattle.demands.proofs.Passed.{cast_keeps_controls, wheel_stepped}
@@ -235,7 +234,7 @@ module _ (f : Format) (i : ℕ) (k : KeptControls) where
   -- ---- a list of calls
   pub kept_by_all : (l : List Call) (s : State) → Shape s.table s.whole → none_steers f i l s ≡ true → Keeps s.table s.whole → Keeps (run_all f l s).table (run_all f l s).whole
   unfolding run_all run none_steers
-  kept_by_all [] s shape q h = h
+  kept_by_all [] s _ q h = h
   kept_by_all (c ∷ l) s shape q h =
       let p = both_true _ _ q in
       kept_by_all l (run f c s) (left_by f c s shape).shape p.1 (kept_by c s shape p.0 h)

@@ -22,8 +22,7 @@ use Rattle.passes.proofs.Laws.{wheel_each}
 use Rattle.refusals.specs.Shape.{count_of, up_of, forward_of}
 use Rattle.refusals.specs.After.{After, after, marked}
 use Rattle.refusals.proofs.Settled.{settled_done}
-use Rattle.aim.specs.declared.Aimed.{Aimed}
-use Rattle.aim.specs.Aim.{aim_of, refuse_aim, not_aimed, aimed_by, aimed_table}
+use Rattle.aim.specs.Aim.{AimReply, aim_of, refuse_aim, not_aimed, aimed_by, aimed_table}
 use Rattle.aim.proofs.Accepted.{aim_says}
 use Rattle.drive.specs.Drive.{drive_under, drive_of, refuse_drive, not_driven, driven_by, idle_at, wakes}
 use Rattle.drive.proofs.Accepted.{drive_says}
@@ -68,7 +67,7 @@ module _ (f : Format) (t : List Float) (m : List ℕ) where
   module _ (c : Chassis) (r : Frame) (n : ℕ) (p : refuse_aim f t m c ≡ 0) where
     pub update_speed : (aim_of f t m c).reply.speed ≡ (update_of f (up_of m) (forward_of m) c r n t).speed
     unfolding update_of aimed_by
-    update_speed = ap (λ (x : After Aimed). x.reply.speed) (aimed_is f t m c p)
+    update_speed = ap (λ (x : After AimReply). x.reply.speed) (aimed_is f t m c p)
 
     aimed_driven_lem : refuse_drive f (aimed_table f c (count_of m) t) (marked m at.AIMED) r n ≡ 0 → drive_of f (aimed_table f c (count_of m) t) (marked m at.AIMED) r n ≡ updated f m c r n t
     unfolding updated update_of driven_by aimed_table

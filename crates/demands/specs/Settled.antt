@@ -12,8 +12,7 @@ use Rattle.wheel.specs.Parts.{with_info}
 use Rattle.wheel.specs.Ray.{update_wheel_transform}
 use Rattle.drive.specs.Drive.{drive_of}
 use Rattle.refusals.specs.After.{After}
-use Rattle.read_wheel.specs.declared.Reading.{Reading}
-use Rattle.read_wheel.specs.Read.{read_wheel}
+use Rattle.read_wheel.specs.Read.{ReadReply, read_wheel}
 use Rattle.demands.specs.History.{State, state, Call, accepted, run, drives, undrives}
 use Rattle.demands.specs.Impulses.{Step, stored_wheel}
 
@@ -23,7 +22,7 @@ after_drive f d =
     let driven = drive_of f d.table d.whole d.frame d.n in
     state driven.table driven.whole
 
-abbrev pub read_after_drive : Format → Step → ℕ → After Reading
+abbrev pub read_after_drive : Format → Step → ℕ → After ReadReply
 read_after_drive f d i = read_wheel f (after_drive f d).table (after_drive f d).whole i
 
 -- none of the calls is an accepted set-up, add, aim or drive: what is accepted sets controls or reads

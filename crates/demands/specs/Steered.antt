@@ -1,5 +1,5 @@
 -- Change request 2026-11, "Steering by angle": what one aim makes of a wheel's steering, an angle that turns nothing, and calls that hand a wheel no new control. Definitions only.
-use Rattle.std.specs.Prelude.{ℕ, Bool, true, false, not, ◌&&◌, List, [], ◌∷◌, ◌≡◌, eqb, Float}
+use Rattle.std.specs.Prelude.{ℕ, Bool, true, false, not, ◌&&◌, List, [], ◌∷◌, ◌≡◌, eqb}
 use Rattle.std.specs.Float.{Format}
 use Rattle.real.specs.Number.{one}
 use Rattle.vector.specs.declared.Vector.{Vector}

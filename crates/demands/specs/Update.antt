@@ -11,8 +11,7 @@ use Rattle.passes.specs.Step.{Work, whole_step}
 use Rattle.refusals.specs.Shape.{up_of, forward_of}
 use Rattle.refusals.specs.After.{After, after, marked}
 use Rattle.aim.specs.Aim.{speed_of}
-use Rattle.drive.specs.declared.Driven.{Driven}
-use Rattle.drive.specs.Drive.{driven_by}
+use Rattle.drive.specs.Drive.{DriveReply, driven_by}
 
 -- rule 1 of wheel i under the kept chassis changes nothing: its hard point, centre, direction and axle are those of the kept chassis
 abbrev pub Placed : Format → List Float → ℕ → Type 0
@@ -28,7 +27,7 @@ unfoldable pub update_of : Format → ℕ → ℕ → Chassis → Frame → ℕ 
 update_of f up forward c r n t = record { speed = speed_of f forward c; work = whole_step f stored up r n (transforms f c.pose n (put_chassis t c)) }
 
 -- its answer, with the table and the whole numbers as it leaves them
-unfoldable pub updated : Format → List ℕ → Chassis → Frame → ℕ → List Float → After Driven
+unfoldable pub updated : Format → List ℕ → Chassis → Frame → ℕ → List Float → After DriveReply
 updated f m c r n t =
     let s = (update_of f (up_of m) (forward_of m) c r n t).work in
     after (driven_by t n s) s.table (marked m at.DRIVEN)

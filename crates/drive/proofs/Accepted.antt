@@ -12,6 +12,7 @@ use Rattle.passes.specs.Passes.{stored, demands_admitted}
 use Rattle.passes.specs.Step.{demand_step, whole_step}
 use Rattle.table.specs.Bounds.{stored_within}
 use Rattle.refusals.specs.Shape.{up_of}
+use Rattle.refusals.proofs.Says.{Shape}
 use Rattle.early.specs.Early.{early_tests}
 use Rattle.drive.specs.Drive.{step_tests, refuse_under, refuse_drive}
 use Rattle.early.proofs.Accepted.{early_numbered, EarlyTested, early_tests_say}
@@ -24,6 +25,10 @@ pub record StepTested (f : Format) (t : List Float) (up : ℕ) (r : Frame) (n : 
 pub record DriveTested (f : Format) (t : List Float) (m : List ℕ) (r : Frame) (n : ℕ) : Type 0 where
   pub early : EarlyTested f t m r n
   pub step : StepTested f t (up_of m) r n
+
+-- the shape, of a callee's answer
+pub tested_shape : (f : Format) (t : List Float) (m : List ℕ) (r : Frame) (n : ℕ) → 0 ≡ first_failed (early_tests f t m r n) → Shape t m
+tested_shape f t m r n h = (early_tests_say f t m r n (sym h)).frame.shape
 
 step_says : (f : Format) (t : List Float) (up : ℕ) (r : Frame) (n : ℕ) → first_failed (step_tests f stored t up r n) ≡ 0 → StepTested f t up r n
 unfolding step_tests first_failed

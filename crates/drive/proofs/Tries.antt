@@ -1,10 +1,10 @@
 -- What a tried step answers and leaves. In order: refused with 7, refused with 8, done; how the drive settles with it, and without it. Assumes nothing.
 use Prim.Native.Nat.{ℕ, zero, suc}
-use mathlib.Core.Bool.{Bool, true, false, not}
+use mathlib.Core.Bool.{Bool, true, false}
 use mathlib.Core.List.{List}
 use mathlib.Core.Path.{◌≡◌, refl, sym, ap, ◌∙◌}
 use native.Mathlib.Omega.{arith}
-use borrow.Author.Tests.{eq-eqb, ne_eqb, not-true, not-false}
+use borrow.Author.Tests.{eq-eqb, ne_eqb}
 use lib.Dec.{eqb}
 use lib.Ieee.{Float, Format}
 use Rattle.lists.specs.Pick.{pick}
@@ -21,45 +21,35 @@ use Rattle.passes.specs.Step.{work, pushed, spun, demand_step, whole_step}
 use Rattle.refusals.specs.Shape.{up_of}
 use Rattle.refusals.specs.After.{after, marked}
 use Rattle.refusals.proofs.Settled.{settled_refused, settled_done}
-use Rattle.drive.specs.declared.Driven.{Driven}
 use Rattle.early.specs.Early.{early_tests}
-use Rattle.drive.specs.Drive.{step_tests, refuse_under, wakes, not_driven, driven_by, drive_under}
+use Rattle.drive.specs.Drive.{DriveReply, step_tests, refuse_under, wakes, not_driven, driven_by, drive_under}
 use Rattle.drive.specs.Tried.{Tried, tried, try_step}
 use Rattle.early.proofs.Accepted.{early_numbered}
 
--- the step: `demanded` and c after the demands, `last` and c' at its end, t' the table as it is left
-module _ (f : Format) (tune : WheelTuning → WheelTuning) (t t' demanded : List Float) (up : ℕ) (r : Frame) (n : ℕ) (c : Chassis) (d : List Directions) (admitted : Bool) where
-  pub tried_7 : (reply : Driven) → work demanded c d ≡ demand_step f tune r n t
-      → admitted ≡ demands_admitted f tune r.dt r.answer n demanded → not admitted ≡ true
-      → reply ≡ not_driven 7 → t' ≡ t → tried reply t' ≡ try_step f tune t up r n
+-- the step: `demanded` and c after the demands, `last` and c' at its end
+module _ (f : Format) (tune : WheelTuning → WheelTuning) (t demanded : List Float) (up : ℕ) (r : Frame) (n : ℕ) (c : Chassis) (d : List Directions) (admitted : Bool)
+    (w : work demanded c d ≡ demand_step f tune r n t) (p : admitted ≡ demands_admitted f tune r.dt r.answer n demanded) where
+  pub tried_7 : admitted ≡ false → tried (not_driven 7) t ≡ try_step f tune t up r n
   unfolding try_step step_tests first_failed pick
-  tried_7 reply w p q l k = rw (l, k, ← w, ← p, not-true admitted q)
+  tried_7 q = rw (← w, ← p, q)
 
-  module _ (last : List Float) (c' : Chassis) (within : Bool) where
-    whole_is : work demanded c d ≡ demand_step f tune r n t
-        → work last c' d ≡ spun f r.dt r.answer n (pushed f up n (work demanded c d)) → whole_step f tune up r n t ≡ work last c' d
+  module _ (last : List Float) (c' : Chassis) (within : Bool) (q : admitted ≡ true) (x : work last c' d ≡ spun f r.dt r.answer n (pushed f up n (work demanded c d)))
+      (s : within ≡ stored_within last n) where
+    whole_is : whole_step f tune up r n t ≡ work last c' d
     unfolding whole_step
-    whole_is w x = rw (← w, ← x)
+    whole_is = rw (← w, ← x)
 
-    pub tried_8 : (reply : Driven) → work demanded c d ≡ demand_step f tune r n t
-        → admitted ≡ demands_admitted f tune r.dt r.answer n demanded → not admitted ≡ false
-        → work last c' d ≡ spun f r.dt r.answer n (pushed f up n (work demanded c d))
-        → within ≡ stored_within last n → not within ≡ true
-        → reply ≡ not_driven 8 → t' ≡ t → tried reply t' ≡ try_step f tune t up r n
+    pub tried_8 : within ≡ false → tried (not_driven 8) t ≡ try_step f tune t up r n
     unfolding try_step step_tests first_failed pick
-    tried_8 reply w p q x s u l k = rw (l, k, whole_is w x, ← w, ← p, not-false admitted q, ← s, not-true within u)
+    tried_8 u = rw (whole_is, ← w, ← p, q, ← s, u)
 
-    pub tried_done : (kept : List Float) (wake : Bool) → work demanded c d ≡ demand_step f tune r n t
-        → admitted ≡ demands_admitted f tune r.dt r.answer n demanded → not admitted ≡ false
-        → work last c' d ≡ spun f r.dt r.answer n (pushed f up n (work demanded c d))
-        → within ≡ stored_within last n → not within ≡ false
-        → wake ≡ wakes kept n → kept ≡ t
+    pub tried_done : (wake : Bool) → within ≡ true → wake ≡ wakes t n
         → tried (record { number = 0; linvel = c'.body.linvel; angvel = c'.body.angvel; wake = wake }) last ≡ try_step f tune t up r n
     unfolding try_step step_tests first_failed pick driven_by
-    tried_done kept wake w p q x s u v k = rw (v, k, whole_is w x, ← w, ← p, not-false admitted q, ← s, not-false within u)
+    tried_done wake u v = rw (v, whole_is, ← w, ← p, q, ← s, u)
 
 -- ---- what a tried step says of the drive, whose reply has the number of the first failed test of the step
-module _ (f : Format) (tune : WheelTuning → WheelTuning) (t t' : List Float) (m : List ℕ) (r : Frame) (n : ℕ) (reply : Driven) (h : tried reply t' ≡ try_step f tune t (up_of m) r n) where
+module _ (f : Format) (tune : WheelTuning → WheelTuning) (t t' : List Float) (m : List ℕ) (r : Frame) (n : ℕ) (reply : DriveReply) (h : tried reply t' ≡ try_step f tune t (up_of m) r n) where
   number_of_tried : reply.number ≡ first_failed (step_tests f tune t (up_of m) r n)
   unfolding try_step driven_by not_driven pick
   number_of_tried = ap (λ (s : Tried). s.reply.number) h ∙ go (first_failed (step_tests f tune t (up_of m) r n))
@@ -77,10 +67,10 @@ module _ (f : Format) (tune : WheelTuning → WheelTuning) (t t' : List Float) (
   unfolding try_step pick
   tried_refused e = h ∙ rw (← number_of_tried, ne_eqb reply.number 0 e)
 
-  module _ (number : ℕ) (p : number ≡ first_failed (early_tests f t m r n)) (q : number ≡ 0) where
+  module _ (p : 0 ≡ first_failed (early_tests f t m r n)) where
     number_of_drive : reply.number ≡ refuse_under f tune t m r n
     unfolding refuse_under
-    number_of_drive = number_of_tried ∙ sym (append_passed (early_tests f t m r n) _ (early_numbered f t m r n) (sym p ∙ q))
+    number_of_drive = number_of_tried ∙ sym (append_passed (early_tests f t m r n) _ (early_numbered f t m r n) (sym p))
 
     pub drive_accepted : reply.number ≡ 0 → after reply t' (marked m at.DRIVEN) ≡ drive_under f tune t m r n
     unfolding drive_under
@@ -93,8 +83,8 @@ module _ (f : Format) (tune : WheelTuning → WheelTuning) (t t' : List Float) (
         ap (λ (s : Tried). after s.reply s.table m) (tried_refused e)
         ∙ settled_refused reply.number _ not_driven _ _ t m number_of_drive e refl
 
--- refused before the step is tried
-pub drive_refused : (f : Format) (tune : WheelTuning → WheelTuning) (t : List Float) (m : List ℕ) (r : Frame) (n number : ℕ) (reply : Driven)
-    → number ≡ first_failed (early_tests f t m r n) → (number ≡ 0 → ⊥) → reply ≡ not_driven number → after reply t m ≡ drive_under f tune t m r n
-unfolding drive_under refuse_under
-drive_refused f tune t m r n number reply p q e = settled_refused number _ not_driven reply _ t m (append_refused_by _ _ number p q) q e
+-- refused before the step is tried: the number of the drive
+pub refused_early : (f : Format) (tune : WheelTuning → WheelTuning) (t : List Float) (m : List ℕ) (r : Frame) (n number : ℕ)
+    → number ≡ first_failed (early_tests f t m r n) → (number ≡ 0 → ⊥) → number ≡ refuse_under f tune t m r n
+unfolding refuse_under
+refused_early f tune t m r n number p q = append_refused_by _ _ number p q

@@ -6,6 +6,7 @@ use Rattle.std.specs.Float.Ieee.{lt}
 use Rattle.lists.specs.Counted.{every}
 use Rattle.lists.specs.Refusal.{Test, ◌or◌, first_failed}
 use Rattle.real.specs.Number.{zero}
+use Rattle.vector.specs.declared.Vector.{Vector}
 use Rattle.vector.specs.Arithmetic.{zero_v}
 use Rattle.tyre.specs.declared.WheelTuning.{WheelTuning}
 use Rattle.table.specs.Layout as at
@@ -40,16 +41,27 @@ idle_at t i = not (lt zero (wheel_at t i).controls.engine)
 unfoldable pub wakes : List Float → ℕ → Bool
 wakes t n = not (every (idle_at t) n 0)
 
-unfoldable pub not_driven : ℕ → Driven
+-- the reply: its number, and the answer, zeros where it is refused
+pub record DriveReply : Type 0 where
+  pub number : ℕ
+  pub linvel : Vector
+  pub angvel : Vector
+  pub wake : Bool
+
+-- what the code answers as the reply
+abbrev pub drive_reply : Driven → DriveReply
+drive_reply d = record { number = 0; linvel = d.linvel; angvel = d.angvel; wake = d.wake }
+
+unfoldable pub not_driven : ℕ → DriveReply
 not_driven number = record { number = number; linvel = zero_v; angvel = zero_v; wake = false }
 
-unfoldable pub driven_by : List Float → ℕ → Work → Driven
+unfoldable pub driven_by : List Float → ℕ → Work → DriveReply
 driven_by t n s = record { number = 0; linvel = s.chassis.body.linvel; angvel = s.chassis.body.angvel; wake = wakes t n }
 
-unfoldable pub drive_under : Format → (WheelTuning → WheelTuning) → List Float → List ℕ → Frame → ℕ → After Driven
+unfoldable pub drive_under : Format → (WheelTuning → WheelTuning) → List Float → List ℕ → Frame → ℕ → After DriveReply
 drive_under f tune t m r n =
     let s = whole_step f tune (up_of m) r n t in
     settled (refuse_under f tune t m r n) not_driven (after (driven_by t n s) s.table (marked m at.DRIVEN)) t m
 
-unfoldable pub drive_of : Format → List Float → List ℕ → Frame → ℕ → After Driven
+unfoldable pub drive_of : Format → List Float → List ℕ → Frame → ℕ → After DriveReply
 drive_of f t m r n = drive_under f stored t m r n

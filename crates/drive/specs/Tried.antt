@@ -6,14 +6,13 @@ use Rattle.lists.specs.Refusal.{first_failed}
 use Rattle.tyre.specs.declared.WheelTuning.{WheelTuning}
 use Rattle.ground.specs.Frame.{Frame}
 use Rattle.passes.specs.Step.{whole_step}
-use Rattle.drive.specs.declared.Driven.{Driven}
-use Rattle.drive.specs.Drive.{step_tests, not_driven, driven_by}
+use Rattle.drive.specs.Drive.{DriveReply, step_tests, not_driven, driven_by}
 
 pub record Tried : Type 0 where
-  pub reply : Driven
+  pub reply : DriveReply
   pub table : List Float
 
-abbrev pub tried : Driven → List Float → Tried
+abbrev pub tried : DriveReply → List Float → Tried
 tried d t = record { reply = d; table = t }
 
 -- the step with its own refusals, 7 and 8

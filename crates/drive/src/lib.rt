@@ -6,10 +6,9 @@ use vector::Vector;
 pub mod advance; // drive
 pub mod results; // its results as numbers
 
-// What a drive answers: its number, the chassis' new velocities, and whether it is to be woken.
+// What an accepted drive answers: the chassis' new velocities, and whether it is to be woken.
 #[derive(Clone, Copy)]
 pub struct Driven {
-    pub number: u32,
     pub linvel: Vector,
     pub angvel: Vector,
     pub wake: bool,

@@ -14,7 +14,7 @@ use Rattle.lists.proofs.Refusals.{numbered, append_passed, passed_of_append}
 use Rattle.wheel.specs.declared.RayAnswer.{RayAnswer}
 use Rattle.table.specs.Layout as at
 use Rattle.table.specs.Bounds.{stored_within}
-use Rattle.ground.specs.Frame.{Frame, Listed}
+use Rattle.ground.specs.Frame.{Frame, FitTogether}
 use Rattle.refusals.specs.Shape.{count_of, mark_of}
 use Rattle.ranges.specs.Ranges.{in_unit, stored_in_range}
 use Rattle.refusals.specs.Normals.{all_normals_ok}
@@ -40,7 +40,7 @@ pub record FrameTested (t : List Float) (m : List ℕ) (bodies : List Float) (dy
   pub shape : Shape t m
   pub aimed : mark_of m ≡ at.AIMED
   pub each : n ≡ count_of m
-  pub lists : Listed bodies dynamic answer n
+  pub lists : FitTogether bodies dynamic answer n
 
 pub frame_tests_say : (t : List Float) (m : List ℕ) (bodies : List Float) (dynamic : List Bool) (answer : ℕ → RayAnswer) (n : ℕ)
     → first_failed (frame_tests t m bodies dynamic answer n) ≡ 0 → FrameTested t m bodies dynamic answer n

@@ -1,5 +1,5 @@
 -- Document 01, "Refusal numbers": the tests of a drive that come before its step, in the order 1, 5, 6, 2, 12, 10 (change request 2026-03: "12, after 2 and before 10"). They read what is stored and what is handed in. Definitions only.
-use Rattle.std.specs.Prelude.{ℕ, ◌*◌, Bool, List, [], ◌∷◌, ◌++◌, eqb, leb, length, Float}
+use Rattle.std.specs.Prelude.{ℕ, ◌*◌, Bool, List, [], ◌∷◌, ◌++◌, eqb, leb, length, Float, Result}
 use Rattle.std.specs.Float.{Format}
 use Rattle.lists.specs.Refusal.{Test, ◌or◌}
 use Rattle.real.specs.Scalar.{within}
@@ -7,7 +7,10 @@ use Rattle.wheel.specs.declared.RayAnswer.{RayAnswer}
 use Rattle.table.specs.Layout as at
 use Rattle.table.specs.Rows.{chassis_at}
 use Rattle.table.specs.Bounds.{HANDED, all_within, stored_within}
+use Rattle.ground.specs.declared.Listed.{Listed}
 use Rattle.ground.specs.Frame.{Frame}
+use Rattle.refusals.specs.declared.Refusal.{Refusal}
+use Rattle.refusals.specs.Refused.{replied}
 use Rattle.refusals.specs.Shape.{count_of, mark_of, shape_ok}
 use Rattle.ranges.specs.Ranges.{in_unit, chassis_in_range, bodies_in_range, stored_in_range}
 use Rattle.refusals.specs.Handed.{answers_ok, all_normals_handed}
@@ -46,3 +49,7 @@ early_tests f t m r n =
     frame_tests t m r.bodies r.dynamic r.answer n
     ++ number_tests f t r.dt r.bodies r.answer n
     ++ range_tests f t r.dt r.bodies (length r.dynamic) n
+
+-- the number of what the tests answer: 0 where the drive goes on
+abbrev pub early_number : Result Listed Refusal → ℕ
+early_number r = replied (λ on. 0) (λ n. n) r

@@ -6,14 +6,11 @@ use Rattle.lists.specs.Refusal.{first_failed}
 use Rattle.refusals.specs.After.{After, settled}
 use Rattle.add_wheel.specs.Add.{add_wheel}
 use Rattle.set_controls.specs.Controls.{set_controls}
-use Rattle.read_wheel.specs.declared.Reading.{Reading}
-use Rattle.read_wheel.specs.Read.{ALL, all_list, read_wheel}
+use Rattle.read_wheel.specs.Read.{ReadReply, ALL, all_list, read_wheel}
 use Rattle.table.specs.Layout as table
 use Rattle.table.specs.Rows.{settings_at, by_rotation_at, by_angle_at, chassis_of}
-use Rattle.aim.specs.declared.Aimed.{Aimed}
-use Rattle.aim.specs.Aim.{aim_of}
-use Rattle.drive.specs.declared.Driven.{Driven}
-use Rattle.drive.specs.Drive.{drive_of}
+use Rattle.aim.specs.Aim.{AimReply, aim_of}
+use Rattle.drive.specs.Drive.{DriveReply, drive_of}
 use Rattle.aim.specs.Sights.{aimed_list}
 use Rattle.flat_out.specs.Layout as at
 use Rattle.flat_out.specs.Ends.{Flat, flat, of_length, flattened}
@@ -34,15 +31,15 @@ flat_controls_by_angle f t m wheel controls = settled (first_failed (of_length c
 unfoldable pub flat_read : Format → List Float → List ℕ → ℕ → List Float → After Flat
 flat_read f t m wheel results =
     settled (first_failed (of_length results ALL ∷ [])) (λ n. flat n results)
-    (flattened (λ (r : Reading). r.number) all_list results (read_wheel f t m wheel)) t m
+    (flattened (λ (r : ReadReply). r.number) all_list results (read_wheel f t m wheel)) t m
 
 unfoldable pub flat_aim : Format → List Float → List ℕ → List Float → List Float → After Flat
 flat_aim f t m chassis results =
     settled (first_failed (of_length chassis table.KEPT ∷ of_length results at.AIM ∷ [])) (λ n. flat n results)
-    (flattened (λ (r : Aimed). r.number) (λ (r : Aimed). aimed_list r.speed r.sights) results (aim_of f t m (chassis_of chassis))) t m
+    (flattened (λ (r : AimReply). r.number) (λ (r : AimReply). aimed_list r.speed r.sights) results (aim_of f t m (chassis_of chassis))) t m
 
 -- an answer for each kind: how many wheels there are is the drive's own test
 unfoldable pub flat_drive : Format → List Float → List ℕ → Float → List Float → List ℕ → List ℕ → List ℕ → List Float → List Float → After Flat
 flat_drive f t m dt bodies dynamic kinds named rays results =
     settled (first_failed (of_length results at.DRIVE ∷ list_tests t m dynamic kinds named rays)) (λ n. flat n results)
-    (flattened (λ (r : Driven). r.number) driven_list results (drive_of f t m (frame_in dt bodies dynamic kinds named rays) (length kinds))) t m
+    (flattened (λ (r : DriveReply). r.number) driven_list results (drive_of f t m (frame_in dt bodies dynamic kinds named rays) (length kinds))) t m

@@ -9,10 +9,11 @@ ghost use Rattle.std.specs.Float.{binary32};
 ghost use Rattle.real.specs.Root.{root_of};
 ghost use Rattle.angle.specs.Angle.{sine_of, cosine_of};
 ghost use Rattle.refusals.specs.After.{after};
+ghost use Rattle.refusals.specs.Refused.{replied};
 ghost use Rattle.table.specs.Layout as lent;
 ghost use Rattle.set_up.specs.SetUp.{set_up};
 ghost use Rattle.read_wheel.specs.Read as read;
-ghost use Rattle.drive.specs.Drive.{drive_of};
+ghost use Rattle.drive.specs.Drive.{drive_reply, not_driven, drive_of};
 ghost use Rattle.flat_in.specs.Lists.{lists_fit, frame_in};
 ghost use Rattle.flat_out.specs.Layout as at;
 ghost use Rattle.flat_in.specs.Layout as rays;
@@ -20,7 +21,9 @@ ghost use Rattle.flat_out.specs.Ends.{flat};
 ghost use Rattle.exports.specs.Calls.{flat_add, flat_controls, flat_controls_by_angle, flat_read, flat_aim, flat_drive};
 
 use drive::Driven;
+use ground::Frame;
 use read_wheel::ALL;
+use refusals::Refusal;
 use table::layout as lent;
 
 // The square root of x, correctly rounded. A NaN, and a number below zero, give a NaN.
@@ -55,7 +58,7 @@ pub extern "C" fn vehicle_cosine(half: f32) -> f32
 pub extern "C" fn vehicle_set_up(table: &mut [f32], whole: &mut [u32], up: u32, forward: u32) -> u32
     ensures { after result table.new whole.new ≡ set_up table.old whole.old up forward }
 {
-    set_up::set_up(table, whole, up, forward)
+    refusals::answer_number(&set_up::set_up(table, whole, up, forward))
 }
 
 // Adds a wheel: `add_wheel::add_wheel`.
@@ -66,10 +69,10 @@ pub extern "C" fn vehicle_add_wheel(table: &mut [f32], whole: &mut [u32], settin
     ensures { after result table.new whole.new ≡ flat_add table.old whole.old settings.now }
 {
     if settings.len() != lent::SETTINGS {
-        return 1;
+        return Refusal::NoVehicle.number();
     }
     let s = table::parts::settings_at(settings, 0);
-    add_wheel::add_wheel(table, whole, s)
+    refusals::answer_number(&add_wheel::add_wheel(table, whole, s))
 }
 
 // Sets the controls of one wheel, steered by a rotation: `set_controls::set_controls`.
@@ -84,10 +87,10 @@ pub extern "C" fn vehicle_set_controls(
     ensures { after result table.new whole.new ≡ flat_controls binary32 table.old whole.old wheel controls.now }
 {
     if controls.len() != lent::BY_ROTATION {
-        return 1;
+        return Refusal::NoVehicle.number();
     }
     let c = table::parts::by_rotation_at(controls, 0);
-    set_controls::set_controls(table, whole, wheel, c)
+    refusals::answer_number(&set_controls::set_controls(table, whole, wheel, c))
 }
 
 // Sets the controls of one wheel, steered by an angle: `set_controls::set_controls`.
@@ -102,10 +105,10 @@ pub extern "C" fn vehicle_set_controls_by_angle(
     ensures { after result table.new whole.new ≡ flat_controls_by_angle binary32 table.old whole.old wheel controls.now }
 {
     if controls.len() != lent::BY_ANGLE {
-        return 1;
+        return Refusal::NoVehicle.number();
     }
     let c = table::parts::by_angle_at(controls, 0);
-    set_controls::set_controls(table, whole, wheel, c)
+    refusals::answer_number(&set_controls::set_controls(table, whole, wheel, c))
 }
 
 // Takes the chassis and writes what the host casts: `aim::aim`.
@@ -121,15 +124,15 @@ pub extern "C" fn vehicle_aim(
     ensures { after (flat result results.new) table.new whole.new ≡ flat_aim binary32 table.old whole.old chassis.now results.old }
 {
     if chassis.len() != lent::KEPT {
-        return 1;
+        return Refusal::NoVehicle.number();
     }
     if results.len() != flat_out::layout::AIM {
-        return 1;
+        return Refusal::NoVehicle.number();
     }
     let c = table::rows::read_chassis(chassis);
-    let r = aim::aim(table, whole, c);
-    flat_out::put_aimed(results, r);
-    r.number
+    let answer = aim::aim(table, whole, c);
+    flat_out::put_aimed(results, answer);
+    refusals::answer_number(&answer)
 }
 
 // The drive on lists that fit together.
@@ -142,22 +145,19 @@ fn drive_lists(
     kinds: &[u32],
     named: &[u32],
     rays: &[f32],
-) -> Driven
+) -> Result<Driven, Refusal>
     requires { lists_fit dynamic.now kinds.now named.now rays.now ≡ true }
-    ensures { after result table.new whole.new ≡ drive_of binary32 table.old whole.old (frame_in dt bodies.now dynamic.now kinds.now named.now rays.now) (length kinds.now) }
+    ensures { after (replied drive_reply not_driven result) table.new whole.new ≡ drive_of binary32 table.old whole.old (frame_in dt bodies.now dynamic.now kinds.now named.now rays.now) (length kinds.now) }
 {
-    let count = dynamic.len();
     let flags = flat_in::decode_flags(dynamic);
     let answers = flat_in::decode_answers(kinds, named, rays);
-    drive::advance::drive(
-        table,
-        whole,
+    let frame = Frame {
         dt,
         bodies,
-        &flags[0..count],
-        answers,
-        kinds.len(),
-    )
+        dynamic: &flags[..dynamic.len()],
+        answers: &answers[..kinds.len()],
+    };
+    drive::advance::drive(table, whole, frame)
 }
 
 // Drives the vehicle by one step: `drive::advance::drive`. Lists that do not fit together are refusal 6.
@@ -180,15 +180,14 @@ pub extern "C" fn vehicle_drive(
     ensures { after (flat result results.new) table.new whole.new ≡ flat_drive binary32 table.old whole.old dt bodies.now dynamic.now kinds.now named.now rays.now results.old }
 {
     if results.len() != flat_out::layout::DRIVE {
-        return 1;
+        return Refusal::NoVehicle.number();
     }
-    let number = flat_in::refuse_lists(&table[..], &whole[..], dynamic, kinds, named, rays);
-    if number != 0 {
-        return number;
+    if let Err(r) = flat_in::refuse_lists(table, whole, dynamic, kinds, named, rays) {
+        return r.number();
     }
-    let r = drive_lists(table, whole, dt, bodies, dynamic, kinds, named, rays);
-    flat_out::put_driven(results, r);
-    r.number
+    let answer = drive_lists(table, whole, dt, bodies, dynamic, kinds, named, rays);
+    flat_out::put_driven(results, answer);
+    refusals::answer_number(&answer)
 }
 
 // Reads one wheel after a drive: `read_wheel::read_wheel`.
@@ -205,11 +204,11 @@ pub extern "C" fn vehicle_read_wheel(
     ensures { after (flat result results.new) table.now whole.now ≡ flat_read binary32 table.now whole.now wheel results.old }
 {
     if results.len() != ALL {
-        return 1;
+        return Refusal::NoVehicle.number();
     }
-    let r = read_wheel::read_wheel(table, whole, wheel);
-    flat_out::put_reading(results, r);
-    r.number
+    let answer = read_wheel::read_wheel(table, whole, wheel);
+    flat_out::put_reading(results, answer);
+    refusals::answer_number(&answer)
 }
 
 // How many numbers a vehicle's table has.

@@ -63,10 +63,13 @@ unfoldable pub answer_in : List ℕ → List ℕ → List Float → ℕ → RayA
 answer_in kinds named rays i =
     pick (eqb (get_or kinds i 0) at.HIT) (hit_in named rays i) (pick (eqb (get_or kinds i 0) at.HIT-UP) (hit_up_in named rays i) Nothing)
 
--- an answer for each kind, and nothing for the wheels after them
+-- an answer for each kind; and the same with nothing for the wheels after them
+unfoldable pub given_in : List ℕ → List ℕ → List Float → List RayAnswer
+given_in kinds named rays = listed (answer_in kinds named rays) (length kinds) 0
+
 unfoldable pub answers_in : List ℕ → List ℕ → List Float → List RayAnswer
-answers_in kinds named rays = paste (replicate table.WHEELS Nothing) 0 (listed (answer_in kinds named rays) (length kinds) 0)
+answers_in kinds named rays = paste (replicate table.WHEELS Nothing) 0 (given_in kinds named rays)
 
 -- ---- what the drive is given
 unfoldable pub frame_in : Float → List Float → List ℕ → List ℕ → List ℕ → List Float → Frame
-frame_in dt bodies dynamic kinds named rays = frame dt bodies (flags_in dynamic) (answer_at (answers_in kinds named rays))
+frame_in dt bodies dynamic kinds named rays = frame dt bodies (flags_in dynamic) (answer_at (given_in kinds named rays))

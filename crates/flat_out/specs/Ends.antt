@@ -1,9 +1,10 @@
 -- How an exported call ends. Document 01: a refusal answers its number and changes no lent number. The results are lent, so they are written only where the
 -- call is accepted. A list of the wrong length, handed in or lent for results, is refusal 1 (a lent list of the wrong size), before all else. Definitions only.
-use Rattle.std.specs.Prelude.{ℕ, List, eqb, length, Float}
+use Rattle.std.specs.Prelude.{Result, Ok, Err, ℕ, List, eqb, length, Float}
 use Rattle.lists.specs.Pick.{pick}
 use Rattle.lists.specs.Refusal.{Test, ◌or◌}
 use Rattle.refusals.specs.After.{After, after}
+use Rattle.refusals.specs.declared.Refusal.{Refusal}
 
 -- the number that a call answers, with the lent results as it leaves them
 pub record Flat : Type 0 where
@@ -25,3 +26,8 @@ written_over before number results = pick (eqb number 0) results before
 unfoldable pub flattened : {R : Type 0} → (R → ℕ) → (R → List Float) → List Float → After R → After Flat
 flattened number results before a =
     after (flat (number a.reply) (written_over before (number a.reply) (results a.reply))) a.table a.whole
+
+-- the results that an answer of the code holds over what was lent for them; a refusal leaves that as it was
+abbrev pub over : {A : Type 0} → List Float → (A → List Float) → Result A Refusal → List Float
+over before results (Ok x) = results x
+over before results (Err r) = before

@@ -1,2 +1,3 @@
--- The laws that the functions' proofs cite.
+-- Laws on the lists of a drive.
 pub mod Answers
+pub mod Filled

@@ -1,10 +1,11 @@
 // The places of a code, one after another.
 ghost use Rattle.std.specs.Prelude.{◌≡◌};
 ghost use Rattle.grammar.specs.Layout as layout;
+ghost use Rattle.grammar.specs.Kinds.{Decodes};
 ghost use Rattle.grammar.specs.Grammar as grammar;
 
 use super::layout::*;
-use super::{Asked, Mark, Place, Verdict};
+use super::{Asked, Kind, Mark, Place, UnknownKind, Verdict};
 
 // So many floats, then the mark's whole number.
 fn then(floats: u32, mark: Mark) -> Place
@@ -14,6 +15,7 @@ fn then(floats: u32, mark: Mark) -> Place
 }
 
 // Whether the word at a place is a float.
+#[tactic(auto, unfolding(crate::specs::Grammar::is_float))]
 fn is_float(place: Place) -> bool
     ensures { result ≡ grammar.is_float place }
 {
@@ -21,6 +23,7 @@ fn is_float(place: Place) -> bool
 }
 
 // How many bits the word at a place has at most.
+#[tactic(auto, unfolding(crate::specs::Grammar::width_at, lists::specs::Pick::pick))]
 pub fn width_at(place: Place) -> u32
     ensures { result ≡ grammar.width_at layout.WIDTHS place }
 {
@@ -39,25 +42,29 @@ pub fn start() -> Place
 }
 
 // What a code asks for.
-pub fn asked(code: u32) -> Asked
-    ensures { result ≡ grammar.asked code }
-{
-    match code {
-        END => Asked::End,
-        ADD => Asked::Add,
-        CONTROLS => Asked::Controls,
-        AIM => Asked::Aim,
-        DRIVE => Asked::Drive,
-        READ => Asked::Read,
-        ADD_ROLLED => Asked::AddRolled,
-        READ_SETTLED => Asked::ReadSettled,
-        READ_ALL => Asked::ReadAll,
-        CONTROLS_BY_ANGLE => Asked::ControlsByAngle,
-        _ => Asked::Unknown,
+impl From<u32> for Asked {
+    ghost from_gives = { λ code r. r ≡ grammar.asked code };
+
+    #[tactic(auto, unfolding(crate::specs::Grammar::asked, lists::specs::Pick::pick))]
+    fn from(code: u32) -> Asked {
+        match code {
+            END => Asked::End,
+            ADD => Asked::Add,
+            CONTROLS => Asked::Controls,
+            AIM => Asked::Aim,
+            DRIVE => Asked::Drive,
+            READ => Asked::Read,
+            ADD_ROLLED => Asked::AddRolled,
+            READ_SETTLED => Asked::ReadSettled,
+            READ_ALL => Asked::ReadAll,
+            CONTROLS_BY_ANGLE => Asked::ControlsByAngle,
+            _ => Asked::Unknown,
+        }
     }
 }
 
 // After a code.
+#[tactic(auto, unfolding(crate::specs::Grammar::after_asked))]
 fn after_asked(asked: Asked) -> Place
     ensures { result ≡ grammar.after_asked asked }
 {
@@ -77,6 +84,7 @@ fn after_asked(asked: Asked) -> Place
 }
 
 // n more bodies, then the answers.
+#[tactic(auto, unfolding(crate::specs::Grammar::bodies, lists::specs::Pick::pick))]
 fn bodies(n: u32) -> Place
     ensures { result ≡ grammar.bodies n }
 {
@@ -88,25 +96,44 @@ fn bodies(n: u32) -> Place
 }
 
 // n more answers, then the end.
+#[tactic(auto, unfolding(crate::specs::Grammar::answers, lists::specs::Pick::pick))]
 fn answers(n: u32) -> Mark
     ensures { result ≡ grammar.answers n }
 {
     if n == 0 { Mark::End } else { Mark::Kind(n - 1) }
 }
 
+// The kind of an answer that a number stands for.
+impl TryFrom<u32> for Kind {
+    type Error = UnknownKind;
+
+    ghost try_from_gives = { Decodes };
+
+    fn try_from(number: u32) -> Result<Kind, UnknownKind> {
+        match number {
+            NOTHING => Ok(Kind::Nothing),
+            HIT => Ok(Kind::Hit),
+            HIT_UP => Ok(Kind::HitUp),
+            _ => Err(UnknownKind(number)),
+        }
+    }
+}
+
 // After the kind of an answer that n more follow.
+#[tactic(auto, unfolding(crate::specs::Grammar::after_kind, lists::specs::Pick::pick))]
 fn after_kind(kind: u32, n: u32) -> Place
     ensures { result ≡ grammar.after_kind kind n }
 {
-    match kind {
-        NOTHING => then(0, answers(n)),
-        HIT => then(HIT_FLOATS, Mark::Named(n)),
-        HIT_UP => then(HIT_UP_FLOATS, Mark::Named(n)),
-        _ => then(0, Mark::Bad),
+    match Kind::try_from(kind) {
+        Ok(Kind::Nothing) => then(0, answers(n)),
+        Ok(Kind::Hit) => then(HIT_FLOATS, Mark::Named(n)),
+        Ok(Kind::HitUp) => then(HIT_UP_FLOATS, Mark::Named(n)),
+        Err(_) => then(0, Mark::Bad),
     }
 }
 
 // A word over its limit is bad.
+#[tactic(auto, unfolding(crate::specs::Grammar::limited, lists::specs::Pick::pick))]
 fn limited(most: u32, word: u32, place: Place) -> Place
     ensures { result ≡ grammar.limited most word place }
 {
@@ -118,11 +145,12 @@ fn limited(most: u32, word: u32, place: Place) -> Place
 }
 
 // After a word at a mark.
+#[tactic(auto, unfolding(crate::specs::Grammar::follow))]
 fn follow(mark: Mark, word: u32) -> Place
     ensures { result ≡ grammar.follow mark word }
 {
     match mark {
-        Mark::Code => after_asked(asked(word)),
+        Mark::Code => after_asked(Asked::from(word)),
         Mark::Wheel(k) => then(k, Mark::End),
         Mark::Bodies => limited(BODIES, word, bodies(word)),
         Mark::Flag(n) => limited(DYNAMIC, word, bodies(n)),
@@ -135,6 +163,7 @@ fn follow(mark: Mark, word: u32) -> Place
 }
 
 // After a word at any place.
+#[tactic(auto, unfolding(crate::specs::Grammar::next, crate::specs::Grammar::is_float, lists::specs::Pick::pick))]
 pub fn next(place: Place, word: u32) -> Place
     ensures { result ≡ grammar.next place word }
 {
@@ -147,6 +176,7 @@ pub fn next(place: Place, word: u32) -> Place
 }
 
 // Whether words are to follow, the code is whole, or no code begins so.
+#[tactic(auto, unfolding(crate::specs::Grammar::verdict, crate::specs::Grammar::verdict_at, lists::specs::Pick::pick))]
 pub fn verdict(place: Place) -> Verdict
     ensures { result ≡ grammar.verdict place }
 {

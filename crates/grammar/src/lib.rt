@@ -20,6 +20,18 @@ pub enum Asked {
     Unknown,
 }
 
+// The kind of an answer.
+#[derive(Clone, Copy)]
+pub enum Kind {
+    Nothing,
+    Hit,
+    HitUp,
+}
+
+// A number that stands for no kind.
+#[derive(Clone, Copy)]
+pub struct UnknownKind(pub u32);
+
 // A whole number: the code; a wheel's number, after which so many floats end the code; the number of bodies; a body's flag; the number of
 // answers; an answer's kind; the number of the body that a hit names. After the body or the answer come so many more.
 // `End` and `Bad` are no words: the code is whole, or no code goes on so.

@@ -1,10 +1,10 @@
 -- Laws on digits and results, in the steps of the loops that count and put them. In order: digits that are put from the last to the first; digits that are counted; how long a number and the results are; results that are put. Assumes nothing.
 use Prim.Native.Nat.{ℕ, zero, suc, ◌+◌, ◌-◌, ◌*◌, ◌/◌, ◌%◌, ◌^◌, ◌≤◌, ◌<◌}
 use mathlib.Core.Bool.{Bool, true, false}
-use mathlib.Core.List.{List, [], ◌∷◌, ◌++◌}
+use mathlib.Core.List.{List, [], ◌∷◌, ◌++◌, append_assoc, append-nil}
 use mathlib.Core.Path.{◌≡◌, refl, sym, ap, ◌∙◌}
 use native.Mathlib.Numerals.{add-one}
-use native.Mathlib.Nat.{add-zero, pow-suc, pow-zero, div-one, div-div-eq-div-mul}
+use native.Mathlib.Nat.{pow-suc, pow-zero, div-one, div-div-eq-div-mul}
 use native.Mathlib.Decide.{dec_lt}
 use native.Mathlib.Omega.{arith}
 use borrow.Author.Tests.{lt-ltb, le-ltb}
@@ -15,8 +15,8 @@ use Rattle.lists.specs.Pick.{pick}
 use Rattle.lists.specs.Part.{paste}
 use Rattle.lines.specs.Layout.{TEN, TEN-DIGITS, HEX, HEX-DIGITS, SPACE}
 use Rattle.lines.specs.Line.{glyph, digits, places_up_to, places, decimal, results}
-use Rattle.lists.specs.Puts.{Puts}
-use Rattle.lists.proofs.Puts.{paste_nil, set_paste, puts_on}
+use Rattle.lists.proofs.Parts.{paste_all}
+use Rattle.lists.proofs.Puts.{paste_nil, set_paste}
 
 pub length_digits : (base k n : ℕ) → length (digits base k n) ≡ k
 unfolding digits
@@ -24,42 +24,42 @@ length_digits base zero n = refl
 length_digits base (suc k) n = ap suc (length_digits base k n)
 
 -- all but the first `left` digits are put, and the rest of n has those
-pub record Spelled (before now : List ℕ) (at base count n left rest : ℕ) : Type 0 where
-  pub few : left ≤ count
+pub record Spelled (before now : List ℕ) (base n left rest : ℕ) : Type 0 where
+  pub few : left ≤ length before
   pub same : length now ≡ length before
-  pub bytes : now ≡ paste before (at + left) (digits base (count - left) n)
-  pub high : rest ≡ n / base ^ (count - left)
+  pub bytes : now ≡ paste before left (digits base (length before - left) n)
+  pub high : rest ≡ n / base ^ (length before - left)
 
-pub none_spelled : (t : List ℕ) (at base count n : ℕ) → Spelled t t at base count n count n
+pub none_spelled : (t : List ℕ) (base n : ℕ) → Spelled t t base n (length t) n
 unfolding digits
-none_spelled t at base count n =
-    let none : count - count ≡ 0 = omega arith in
+none_spelled t base n =
+    let none : length t - length t ≡ 0 = omega arith in
     record {
       few = omega arith;
       same = refl;
-      bytes = rw none (sym (paste_nil t (at + count)));
+      bytes = rw none (sym (paste_nil t (length t)));
       high = rw (none, pow-zero) (sym (div-one n));
     }
 
-module _ {t now : List ℕ} {at base count n left rest : ℕ} (s : Spelled t now at base count n left rest) (room : at + count ≤ length t) where
-  pub one_spelled : 0 < left → (x : ℕ) → x ≡ glyph (rest % base) → Spelled t (set now (at + (left - 1)) x) at base count n (left - 1) (rest / base)
+module _ {t now : List ℕ} {base n left rest : ℕ} (s : Spelled t now base n left rest) where
+  pub one_spelled : 0 < left → (x : ℕ) → x ≡ glyph (rest % base) → Spelled t (set now (left - 1) x) base n (left - 1) (rest / base)
   unfolding digits
   one_spelled l x e =
-      let one_more : count - (left - 1) ≡ suc (count - left) = omega (arith, s.few) in
-      let place : at + left ≡ suc (at + (left - 1)) = omega arith in
+      let one_more : length t - (left - 1) ≡ suc (length t - left) = omega (arith, s.few) in
+      let place : suc (left - 1) ≡ left = omega arith in
+      let digit : x ≡ glyph (n / base ^ (length t - left) % base) = rw s.high at e in
       record {
         few = omega (arith, s.few);
-        same = length-set now (at + (left - 1)) x ∙ s.same;
-        bytes = rw (s.bytes, e, s.high, one_more, place) (set_paste t (at + (left - 1)) _ (digits base (count - left) n) (omega (arith, s.few)));
-        high = rw (s.high, one_more, pow-suc) (div-div-eq-div-mul n (base ^ (count - left)) base);
+        same = length-set now (left - 1) x ∙ s.same;
+        bytes = rw (s.bytes, digit, one_more) (rw place at (set_paste t (left - 1) (glyph (n / base ^ (length t - left) % base)) (digits base (length t - left) n) (omega (arith, s.few))));
+        high = rw (s.high, one_more, pow-suc) (div-div-eq-div-mul n (base ^ (length t - left)) base);
       }
 
-  pub all_spelled : left ≤ 0 → Puts t now at (at + count) (digits base count n)
+  pub all_spelled : left ≤ 0 → now ≡ digits base (length t) n
   all_spelled l =
       let none : left ≡ 0 = omega arith in
-      let place : at + 0 ≡ at = omega arith in
-      let whole : count - 0 ≡ count = omega arith in
-      record { put = rw (none, place, whole) at s.bytes; end = rw length_digits }
+      let whole : length t - 0 ≡ length t = omega arith in
+      (rw (none, whole) at s.bytes) ∙ paste_all t _ (omega (arith, length_digits base (length t) n))
 
 one_place : (f m : ℕ) → m < TEN → places_up_to f m ≡ 1
 unfolding places_up_to pick
@@ -121,43 +121,30 @@ length_results size [] = omega arith
 length_results size (w ∷ l) = rw (length-append, length_digits, length_results size l) (omega arith)
 
 -- i results are put, and those that are left give what all give
-pub record Listed (before now l : List ℕ) (at i next : ℕ) : Type 0 where
+pub record Listed (before now l : List ℕ) (i : ℕ) : Type 0 where
   pub few : i ≤ length l
-  pub same : length now ≡ length before
-  pub end : at + length (results HEX-DIGITS l) ≡ next + length (results HEX-DIGITS (drop i l))
-  pub left : paste before at (results HEX-DIGITS l) ≡ paste now next (results HEX-DIGITS (drop i l))
+  pub left : before ++ results HEX-DIGITS l ≡ now ++ results HEX-DIGITS (drop i l)
 
-pub none_listed : (t l : List ℕ) (at : ℕ) → Listed t t l at 0 at
-none_listed t l at = record { few = omega arith; same = refl; end = refl; left = refl }
+pub none_listed : (t l : List ℕ) → Listed t t l 0
+none_listed t l = record { few = omega arith; left = refl }
 
-module _ {t now l : List ℕ} {at i next : ℕ} (s : Listed t now l at i next) where
-  module _ (room : at + length l * (1 + HEX-DIGITS) ≤ length t) (more : i < length l) where
-    -- a result has room
-    pub result_fits : next + (1 + HEX-DIGITS) ≤ length now
-    result_fits =
-        let some : 1 + HEX-DIGITS ≤ length (results HEX-DIGITS (drop i l)) = rw (length_results, length-drop) (omega arith) in
-        omega (arith, s.end, s.same, length_results HEX-DIGITS l)
+module _ {t now l : List ℕ} {i : ℕ} (s : Listed t now l i) where
+  -- a result has room
+  pub result_fits : {n : ℕ} → length t + length l * (1 + HEX-DIGITS) ≤ n → i < length l → length now + (1 + HEX-DIGITS) ≤ n
+  result_fits room more =
+      let some : 1 + HEX-DIGITS ≤ length (results HEX-DIGITS (drop i l)) = rw (length_results, length-drop) (omega arith) in
+      omega (arith, simp length-append at (ap length s.left), length_results HEX-DIGITS l)
 
-    pub one_listed : (u v : List ℕ) (a b : ℕ) → length u ≡ length now → length v ≡ length u → Puts now u next a (SPACE ∷ [])
-        → Puts u v a b (digits HEX HEX-DIGITS (get_or l i 0)) → Listed t v l at (i + 1) b
-    unfolding results
-    one_listed u v a b x y p q =
-        let w = get_or l i 0 in
-        let behind = results HEX-DIGITS (drop (i + 1) l) in
-        let first : drop i l ≡ w ∷ drop (i + 1) l = rw add-one (drop-cons l i 0 more) in
-        let count : length (results HEX-DIGITS (drop i l)) ≡ 1 + HEX-DIGITS + length behind = rw (first, length-append, length_digits) (omega arith) in
-        record {
-          few = omega arith;
-          same = y ∙ x ∙ s.same;
-          end = omega (arith, s.end, p.end, q.end, length_digits HEX HEX-DIGITS w);
-          left = s.left ∙ rw first (sym (puts_on q (omega (arith, result_fits, p.end)) behind ∙ puts_on p (omega (arith, result_fits)) (digits HEX HEX-DIGITS w ++ behind)));
-        }
+  pub one_listed : i < length l → {u v : List ℕ} → u ≡ now ++ SPACE ∷ [] → v ≡ u ++ digits HEX HEX-DIGITS (get_or l i 0) → Listed t v l (i + 1)
+  unfolding results
+  one_listed more {u} {v} p q =
+      let w = get_or l i 0 in
+      let behind = results HEX-DIGITS (drop (i + 1) l) in
+      let first : drop i l ≡ w ∷ drop (i + 1) l = rw add-one (drop-cons l i 0 more) in
+      record { few = omega arith; left = s.left ∙ rw (first, q, p) (sym (append_assoc (now ++ SPACE ∷ []) _ behind ∙ append_assoc now (SPACE ∷ []) _)) }
 
-  pub all_listed : length l ≤ i → Puts t now at next (results HEX-DIGITS l)
+  pub all_listed : length l ≤ i → now ≡ t ++ results HEX-DIGITS l
   unfolding results
   all_listed h =
       let none : results HEX-DIGITS (drop i l) ≡ [] = rw (drop_of_length-le l h) in
-      record {
-        put = sym (s.left ∙ rw none (paste_nil now next));
-        end = sym (rw (none, add-zero) at s.end);
-      }
+      sym (s.left ∙ rw none (append-nil now))

@@ -6,3 +6,5 @@ pub mod Every
 pub mod Refusals
 pub mod Filling
 pub mod Puts
+pub mod Counts
+pub mod Chains

@@ -1,14 +1,14 @@
--- Laws on `part` and `paste`, for rows of any length, and on a copy made element by element. In order: what a borrowed part holds and leaves; lengths;
--- what was put is there, and what lies before or after is as it was; the same for rows of n; one more element copied, and all of them; one part after another, one as long as the list, and one of one element. Assumes nothing.
+-- Laws on `part` and `paste`, for rows of any length. In order: what a borrowed part holds and leaves; lengths;
+-- what was put is there, and what lies before or after is as it was; the same for rows of n; one part after another, one as long as the list, and one of one element. Assumes nothing.
 use Prim.Native.Nat.{ℕ, zero, suc, ◌+◌, ◌-◌, ◌*◌, ◌≤◌, ◌<◌}
 use mathlib.Core.List.{List, [], ◌∷◌, ◌++◌, append-nil, append_assoc}
 use mathlib.Core.Path.{◌≡◌, refl, sym, ap, ◌∙◌}
-use native.Mathlib.Nat.{not-suc-le-zero, le_of_suc-le-suc, mul-le-mul_right, suc-mul, add-mul}
+use native.Mathlib.Nat.{mul-le-mul_right, suc-mul, add-mul}
 use native.Mathlib.Decide.{dec_lt}
 use native.Mathlib.Numerals.{add-one}
 use native.Mathlib.Omega.{arith}
-use lib.ListN.{length, take, drop, get_or, set, length-append, length-take, length-drop, drop_of_length-le}
-use lib.Seq.{take_at, drop_at, take-append-le, drop-append-le, take-append-add, drop-append-add, take-append_seam, drop-append_seam, drop-drop, take-take, length-take-le, take_all, get_or-take, get_or-drop, set_split}
+use lib.ListN.{length, take, drop, get_or, set, replicate, length-append, length-take, length-drop, drop_of_length-le}
+use lib.Seq.{take_at, drop_at, take-append-le, drop-append-le, take-append-add, drop-append-add, take-append_seam, drop-append_seam, drop-drop, take-take, length-take-le, get_or-take, get_or-drop, set_split}
 use Rattle.lists.specs.Part.{part, paste}
 
 cut : (a k : ℕ) → (a + k) - a ≡ k
@@ -101,22 +101,6 @@ module _ {A : Type 0} where
   pub head_kept : (t : List A) (b n i : ℕ) (r : List A) → b + i * n ≤ length t → part (paste t (b + i * n) r) 0 b ≡ part t 0 b
   head_kept t b n i r h = part_before t (b + i * n) 0 b r (omega arith) h
 
-  copied_suc : (i : ℕ) (s d : List A) (z : A) → i < length s → i < length d
-      → set (take i s ++ drop i d) i (get_or s i z) ≡ take (suc i) s ++ drop (suc i) d
-  copied_suc i [] d z l k = absurd (not-suc-le-zero l)
-  copied_suc i (x ∷ s) [] z l k = absurd (not-suc-le-zero k)
-  copied_suc zero (x ∷ s) (y ∷ d) z l k = refl
-  copied_suc (suc i) (x ∷ s) (y ∷ d) z l k = ap (λ (t : List A). x ∷ t) (copied_suc i s d z (le_of_suc-le-suc l) (le_of_suc-le-suc k))
-
-  -- one more element copied
-  pub copied_more : (i : ℕ) (s d : List A) (z : A) → i < length s → i < length d
-      → set (take i s ++ drop i d) i (get_or s i z) ≡ take (i + 1) s ++ drop (i + 1) d
-  copied_more i s d z l k = rw add-one (copied_suc i s d z l k)
-
-  -- all elements copied
-  pub copied_all : (i : ℕ) (s d : List A) → length s ≤ i → length d ≤ i → take i s ++ drop i d ≡ s
-  copied_all i s d l k = rw (take_all i s l, drop_of_length-le d k) (append-nil s)
-
   -- one part after another is both at once
   pub paste_paste : (t : List A) (a : ℕ) (r s : List A) → a ≤ length t → paste (paste t a r) (a + length r) s ≡ paste t a (r ++ s)
   unfolding paste
@@ -138,3 +122,25 @@ module _ {A : Type 0} where
   pub set_is_paste : (t : List A) (a : ℕ) (x : A) → a < length t → set t a x ≡ paste t a (x ∷ [])
   unfolding paste
   set_is_paste t a x h = rw (set_split t a x h, drop-drop 1 a t, add-one)
+
+-- what was put at the front of a list
+pub front_of_paste : {A : Type 0} (t r : List A) (k : ℕ) → length r ≡ k → take k (paste t 0 r) ≡ r
+unfolding paste
+front_of_paste t r k h = take_at r (drop (length r) t) k h
+
+-- what stands behind it in a list of d is what a reading past its end gives
+get_or_drop_replicate : {A : Type 0} (d : A) (k n i : ℕ) → get_or (drop n (replicate k d)) i d ≡ d
+get_or_drop_replicate d zero zero i = refl
+get_or_drop_replicate d zero (suc n) i = refl
+get_or_drop_replicate d (suc k) zero zero = refl
+get_or_drop_replicate d (suc k) zero (suc i) = get_or_drop_replicate d k zero i
+get_or_drop_replicate d (suc k) (suc n) i = get_or_drop_replicate d k n i
+
+pub front_read : {A : Type 0} (d : A) (r : List A) (k i : ℕ) → get_or (paste (replicate k d) 0 r) i d ≡ get_or r i d
+unfolding paste
+front_read {A} d r k i = go r (length r) i
+  where
+    go : (l : List A) (n j : ℕ) → get_or (l ++ drop n (replicate k d)) j d ≡ get_or l j d
+    go [] n j = get_or_drop_replicate d k n j
+    go (x ∷ l) n zero = refl
+    go (x ∷ l) n (suc j) = go l n j

@@ -18,13 +18,6 @@ const GROUP_BITS: u32 = 7;
 
 const GROUP: u8 = 128;
 
-// A byte as a word.
-fn wide(b: u8) -> u32
-    ensures { result ≡ b }
-{
-    b as u32
-}
-
 // The last group that so many bits reach into, counted from 0.
 fn last(bits: u32) -> usize
     ensures { result ≡ layout.last bits }
@@ -40,6 +33,7 @@ fn last_most(bits: u32) -> u8
 }
 
 // Whether the k-th group of a number of so many bits, counted from 0, cannot be b.
+#[tactic(auto, unfolding(crate::specs::Number::bad_group, lists::specs::Pick::pick))]
 fn bad_group(bits: u32, k: usize, b: u8) -> bool
     ensures { result ≡ bad_group bits k b }
 {
@@ -68,12 +62,12 @@ pub fn read_number(bits: u32, bytes: &[u8]) -> Number
         if bad_group(bits, k, b) {
             break Number::Bad;
         }
-        value += wide(b % GROUP) * unit;
+        value += u32::from(b % GROUP) * unit;
         k += 1usize;
         if b < GROUP {
             break Number::Value(value, k);
         }
-        unit *= GROUP as u32;
+        unit *= u32::from(GROUP);
     };
     number
 }

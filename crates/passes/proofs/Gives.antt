@@ -1,4 +1,4 @@
--- Laws on a value that is worked out for each of the first n wheels, in a list with room for all. In order: what k turns from i on leave; the list's length; value i. Assumes nothing.
+-- Laws on a value that is worked out for each of the first n wheels, in a list with room for all. In order: what k turns from i on leave; the list's length; value i; the loop's laws as a set. Assumes nothing.
 use Prim.Native.Nat.{ℕ, zero, suc, ◌+◌, ◌≤◌, ◌<◌}
 use mathlib.Core.List.{List}
 use mathlib.Core.Path.{◌≡◌, refl, ◌∙◌}
@@ -8,6 +8,7 @@ use lib.ListN.{length, get_or, length-set, length-replicate}
 use lib.Seq.{get_or-set_same, get_or-set_other}
 use lib.Ieee.{Float}
 use Rattle.lists.specs.Counted.{iter}
+use Rattle.lists.proofs.Turns.{turning_start, turning_again, turning_done}
 use Rattle.wheel.specs.declared.Wheel.{Wheel}
 use Rattle.table.specs.Layout as at
 use Rattle.table.specs.Rows.{wheel_at}
@@ -44,3 +45,6 @@ module _ {A : Type 0} (v : Wheel → A) (d : A) (t : List Float) where
     pub gives_at : (i : ℕ) → n ≤ at.WHEELS → i < n → get_or (each_gives v none n t) i d ≡ v (wheel_at t i)
     unfolding each_gives
     gives_at i l h = given_inside n 0 i _ (omega arith) (omega arith) (omega (arith, length-replicate at.WHEELS none))
+
+-- what a loop that gives them cites
+pub ruleset giving = (turning_start, turning_again, turning_done)

@@ -1,5 +1,5 @@
 -- Laws on the passes over the wheels of a table. In order: a loop that moves the chassis by each wheel (h); one wheel changed (g),
--- and a loop that changes each; what a pass over the first n wheels leaves of the length, the chassis and each wheel; each pass at a wheel. Assumes nothing.
+-- and a loop that changes each; what a pass over the first n wheels leaves of the length, the chassis and each wheel; each pass at a wheel; the two loops' laws as sets. Assumes nothing.
 use Prim.Native.Nat.{ℕ, zero, suc, ◌+◌, ◌≤◌, ◌<◌}
 use mathlib.Core.List.{List}
 use mathlib.Core.Path.{◌≡◌, refl, ap, ◌∙◌}
@@ -145,3 +145,8 @@ module _ (f : Format) (n : ℕ) (t : List Float) (s : length t ≡ at.SIZE) (l :
   pub wheel_spins : (dt : Float) (chassis : Body) (answer : ℕ → RayAnswer) → wheel_at (spins f dt chassis answer n t) i ≡ update_rotation f dt (grounded_at answer i) chassis (wheel_at t i)
   unfolding spins spin_at
   wheel_spins dt chassis answer = wheel_each (spin_at f dt chassis answer) n t s l i h
+
+-- ---- what a loop of a pass cites, and one that moves the chassis
+pub ruleset passing = (passing_start, passing_again, passing_done)
+
+pub ruleset moving = (turning_start, moving_again, moving_done)

@@ -1,19 +1,17 @@
 -- Document 01, "Scenario program": the call that a code asks for, its answer number and, if accepted, its results as words. `l` has the words of a whole code, and zeros behind them. Definitions only.
-use Rattle.std.specs.Prelude.{ℕ, ◌≤◌, List, [], ◌≡◌, eqb, Float, length, replicate}
+use Rattle.std.specs.Prelude.{ℕ, ◌≤◌, List, [], ◌≡◌, eqb, Float, length, Result}
 use Rattle.std.specs.Float.{Format}
 use Rattle.lists.specs.Pick.{pick}
 use Rattle.lists.specs.Part.{paste}
 use Rattle.wheel.specs.declared.Settings.{Settings}
 use Rattle.wheel.specs.declared.Controls.{Controls}
-use Rattle.wheel.specs.declared.RayAnswer.TheVariants.{Nothing}
 use Rattle.wheel.specs.Ray.{answer_at}
 use Rattle.ground.specs.Frame.{Frame, frame}
 use Rattle.refusals.specs.Shape.{count_of}
 use Rattle.refusals.specs.After.{After, after}
 use Rattle.add_wheel.specs.Add.{add_wheel}
 use Rattle.set_controls.specs.Controls.{set_controls}
-use Rattle.read_wheel.specs.declared.Reading.{Reading}
-use Rattle.read_wheel.specs.Read.{read_wheel}
+use Rattle.read_wheel.specs.Read.{ReadReply, read_wheel}
 use Rattle.aim.specs.Aim.{aim_of}
 use Rattle.drive.specs.Drive.{drive_of}
 use Rattle.grammar.specs.declared.Asked.{Asked}
@@ -21,7 +19,9 @@ use Rattle.grammar.specs.Layout as code
 use Rattle.grammar.specs.Grammar.{asked}
 use Rattle.scenario.specs.Decode.{number_from, rolled_from, settings_from, wheel_from, controls_from, controls_by_angle_from, chassis_from}
 use Rattle.frame_words.specs.Frame.{step_from, body_count_from, bodies_from, flags_from, answer_count_from, answers_start, answers_from}
-use Rattle.perform.specs.declared.Answer.{Answer}
+use Rattle.refusals.specs.Refused.{replied}
+use Rattle.refusals.specs.declared.Refusal.{Refusal}
+use Rattle.perform.specs.declared.Car.{Car}
 use Rattle.replies.specs.Replies.{aim_results, drive_results, read_results, settled_results, all_results}
 
 -- ---- what a code is answered: a number and the results
@@ -57,17 +57,16 @@ aim_call f l t m = told (λ r. r.number) (aim_results f (count_of m)) (aim_of f 
 unfoldable pub answers_of : List ℕ → ℕ
 answers_of l = answer_count_from l (body_count_from l)
 
--- (a list of answers has room for every wheel: nothing stands behind those that are given)
 unfoldable pub frame_from : Format → List ℕ → Frame
 frame_from f l =
     let bodies = body_count_from l in
-    frame (step_from f l) (bodies_from f l bodies) (flags_from l bodies) (answer_at (paste (replicate code.ANSWERS Nothing) 0 (answers_from f l (answers_start bodies) (answers_of l))))
+    frame (step_from f l) (bodies_from f l bodies) (flags_from l bodies) (answer_at (answers_from f l (answers_start bodies) (answers_of l)))
 
 abbrev pub drive_call : Format → List ℕ → List Float → List ℕ → After Answered
 drive_call f l t m = told (λ r. r.number) (drive_results f) (drive_of f t m (frame_from f l) (answers_of l))
 
 -- a read, by the results that its code has
-abbrev pub read_call : Format → (Reading → List ℕ) → List ℕ → List Float → List ℕ → After Answered
+abbrev pub read_call : Format → (ReadReply → List ℕ) → List ℕ → List Float → List ℕ → After Answered
 read_call f results l t m = told (λ r. r.number) results (read_wheel f t m (wheel_from l))
 
 -- an answer 0 that changes nothing
@@ -96,10 +95,17 @@ pub record Counted (l : List ℕ) : Type 0 where
   pub bodies : body_count_from l ≤ code.BODIES
   pub answers : answers_of l ≤ code.ANSWERS
 
+-- the number of what the code answers: 0 where the call is accepted; and how many results it has: none where it is refused
+abbrev pub number_in : Result ℕ Refusal → ℕ
+number_in r = replied (λ count. 0) (λ number. number) r
+
+abbrev pub count_in : Result ℕ Refusal → ℕ
+count_in r = replied (λ count. count) (λ number. 0) r
+
 -- a call is made: its number, its results in the lent ones and how many they are, and the table and the whole numbers as it leaves them
-pub record Performs (x : After Answered) (r : Answer) (before results : List ℕ) (t : List Float) (m : List ℕ) : Type 0 where
-  pub number : r.number ≡ x.reply.number
-  pub count : r.count ≡ length x.reply.results
+pub record Performs (x : After Answered) (r : Result ℕ Refusal) (before results : List ℕ) (c : Car) : Type 0 where
+  pub number : number_in r ≡ x.reply.number
+  pub count : count_in r ≡ length x.reply.results
   pub lent : results ≡ paste before 0 x.reply.results
-  pub table : t ≡ x.table
-  pub whole : m ≡ x.whole
+  pub table : c.table ≡ x.table
+  pub whole : c.whole ≡ x.whole

@@ -1,45 +1,52 @@
-// The calls between frames that name a wheel, made from the words of their codes: controls, read.
-ghost use Rattle.std.specs.Prelude.{◌≡◌, length};
+// The calls between frames, made from the words of their codes: add, controls, read. Each answers how many results it has.
+ghost use Rattle.std.specs.Prelude.{◌≡◌};
 ghost use Rattle.refusals.specs.After.{after};
+ghost use Rattle.add_wheel.specs.Add.{add_wheel};
 ghost use Rattle.set_controls.specs.Controls.{set_controls};
-ghost use Rattle.grammar.specs.Layout as code;
-ghost use Rattle.lines.specs.Layout as line;
 ghost use Rattle.scenario.specs.Format.{format};
 ghost use Rattle.scenario.specs.Decode.{wheel_from};
 ghost use Rattle.replies.specs.Replies.{results_of};
-ghost use Rattle.perform.specs.Call.{read_call, Performs};
+ghost use Rattle.perform.specs.Call.{number_in, count_in, read_call, Performs};
 
-use super::Answer;
+use super::Car;
+use grammar::layout::CODE_WORDS;
+use lines::layout::RESULTS;
+use refusals::Refusal;
 use replies::Extent;
 use scenario::decode;
-use wheel::Controls;
+use wheel::{Controls, Settings};
 
-// Sets the controls of the wheel that the words name. Answers the number of the call.
-pub fn call_controls(words: &[u32], table: &mut [f32], whole: &mut [u32], c: Controls) -> u32
-    requires { length words.now ≡ code.CODE-WORDS }
-    ensures { after result table.new whole.new ≡ set_controls format table.old whole.old (wheel_from words.now) c }
+// Adds a wheel with these settings.
+pub fn call_add(car: &mut Car, s: Settings) -> Result<usize, Refusal>
+    ensures { (after (number_in result) car.new.table car.new.whole ≡ add_wheel car.old.table car.old.whole s) × (count_in result ≡ 0) }
+{
+    add_wheel::add_wheel(&mut car.table, &mut car.whole, s)?;
+    Ok(0)
+}
+
+// Sets the controls of the wheel that the words name.
+pub fn call_controls(
+    words: &[u32; CODE_WORDS],
+    car: &mut Car,
+    c: Controls,
+) -> Result<usize, Refusal>
+    ensures { (after (number_in result) car.new.table car.new.whole ≡ set_controls format car.old.table car.old.whole (wheel_from words.now) c) × (count_in result ≡ 0) }
 {
     let wheel = decode::wheel_from(words);
-    set_controls::set_controls(table, whole, wheel, c)
+    set_controls::set_controls(&mut car.table, &mut car.whole, wheel, c)?;
+    Ok(0)
 }
 
 // Reads the wheel that the words name; if accepted, its numbers go into the results, to this extent.
 pub fn call_read(
-    words: &[u32],
-    table: &[f32],
-    whole: &[u32],
+    words: &[u32; CODE_WORDS],
+    car: &Car,
     extent: Extent,
-    results: &mut [u32],
-) -> Answer
-    requires { (length words.now ≡ code.CODE-WORDS) × (length results.old ≡ line.RESULTS) }
-    ensures { Performs (read_call format (λ x. results_of format extent x) words.now table.now whole.now) result results.old results.new table.now whole.now }
+    results: &mut [u32; RESULTS],
+) -> Result<usize, Refusal>
+    ensures { Performs (read_call format (λ x. results_of format extent x) words.now car.now.table car.now.whole) result results.old results.new car.now }
 {
     let wheel = decode::wheel_from(words);
-    let r = read_wheel::read_wheel(table, whole, wheel);
-    let number = r.number;
-    if number != 0 {
-        return Answer { number, count: 0 };
-    }
-    let count = replies::put_reading(results, extent, r);
-    Answer { number, count }
+    let r = read_wheel::read_wheel(&car.table, &car.whole, wheel)?;
+    Ok(replies::put_reading(results, extent, r))
 }

@@ -8,6 +8,7 @@ ghost use Rattle.lists.specs.All.{all};
 ghost use Rattle.ranges.specs.Ranges.{in_range, in_unit, not_negative, settings_in_range, sum_of_squares, in_band, rotation_in_range, steering_in_range, controls_in_range, chassis_in_range, bodies_in_range, wheel_in_range};
 
 use body::Chassis;
+use table::layout::SIZE;
 use vector::Rotation;
 use wheel::{Controls, Settings, Steering};
 
@@ -24,19 +25,22 @@ const LEAST_INVMASS: f32 = 0.00000095367431640625;
 
 const MOST_INVMASS: f32 = 1048576.0;
 
+#[tactic(auto, unfolding(crate::specs::Ranges::in_range, lists::specs::Pick::pick))]
 fn is_in_range(low: f32, high: f32, x: f32) -> bool
     ensures { result ≡ in_range low high x }
 {
-    if low <= x { x <= high } else { false }
+    low <= x && x <= high
 }
 
 // Whether x is from 0 to 1: a time step, the time of a hit, or a roll influence.
+#[tactic(auto, unfolding(crate::specs::Ranges::in_unit))]
 pub fn is_in_unit(x: f32) -> bool
     ensures { result ≡ in_unit x }
 {
     is_in_range(0.0, 1.0, x)
 }
 
+#[tactic(auto, unfolding(crate::specs::Ranges::not_negative))]
 fn is_not_negative(x: f32) -> bool
     ensures { result ≡ not_negative x }
 {
@@ -47,41 +51,28 @@ fn is_not_negative(x: f32) -> bool
 fn are_not_negative(s: &[f32]) -> bool
     ensures { result ≡ all not_negative s.now }
 {
-    let mut ok = true;
-    let mut i = 0usize;
-    while i < s.len() {
-        let x = s[i];
-        ok = ok & is_not_negative(x);
-        i += 1usize;
-    }
-    ok
+    s.iter().all(|x| is_not_negative(*x))
 }
 
+#[tactic(auto, unfolding(crate::specs::Ranges::settings_in_range, lists::specs::Pick::pick))]
 pub fn are_settings_in_range(s: Settings) -> bool
     ensures { result ≡ settings_in_range s }
 {
-    if 0.0 < s.radius {
-        let numbers = [
-            s.rest,
-            s.tuning.travel,
-            s.tuning.slip,
-            s.tuning.stiffness,
-            s.tuning.compression,
-            s.tuning.damping,
-            s.tuning.sideways,
-            s.tuning.most,
-        ];
-        if are_not_negative(&numbers) {
-            is_in_unit(s.roll)
-        } else {
-            false
-        }
-    } else {
-        false
-    }
+    let numbers = [
+        s.rest,
+        s.tuning.travel,
+        s.tuning.slip,
+        s.tuning.stiffness,
+        s.tuning.compression,
+        s.tuning.damping,
+        s.tuning.sideways,
+        s.tuning.most,
+    ];
+    0.0 < s.radius && are_not_negative(&numbers) && is_in_unit(s.roll)
 }
 
 // The sum of squares, x, y, z, w in order.
+#[tactic(auto, unfolding(crate::specs::Ranges::sum_of_squares))]
 fn sum_of_squares(q: Rotation) -> f32
     ensures { result ≡ sum_of_squares binary32 q }
 {
@@ -96,6 +87,7 @@ pub fn is_in_band(x: f32) -> bool
     is_in_range(BAND_LOW, BAND_HIGH, x)
 }
 
+#[tactic(auto, unfolding(crate::specs::Ranges::rotation_in_range))]
 pub fn is_rotation_in_range(q: Rotation) -> bool
     ensures { result ≡ rotation_in_range binary32 q }
 {
@@ -103,6 +95,7 @@ pub fn is_rotation_in_range(q: Rotation) -> bool
 }
 
 // Whether a steering's rotation, or its angle, is in its range.
+#[tactic(auto, unfolding(crate::specs::Ranges::steering_in_range))]
 fn is_steering_in_range(s: Steering) -> bool
     ensures { result ≡ steering_in_range binary32 s }
 {
@@ -112,24 +105,18 @@ fn is_steering_in_range(s: Steering) -> bool
     }
 }
 
+#[tactic(auto, unfolding(crate::specs::Ranges::controls_in_range, lists::specs::Pick::pick))]
 pub fn are_controls_in_range(c: Controls) -> bool
     ensures { result ≡ controls_in_range binary32 c }
 {
-    let s = c.steering;
-    if !is_not_negative(c.brake) {
-        return false;
-    }
-    is_steering_in_range(s)
+    is_not_negative(c.brake) && is_steering_in_range(c.steering)
 }
 
 pub fn is_chassis_in_range(c: Chassis) -> bool
     ensures { result ≡ chassis_in_range binary32 c }
 {
-    let p = c.pose;
-    if !is_in_range(LEAST_INVMASS, MOST_INVMASS, c.body.invmass) {
-        return false;
-    }
-    is_rotation_in_range(p.rotation)
+    is_in_range(LEAST_INVMASS, MOST_INVMASS, c.body.invmass)
+        && is_rotation_in_range(c.pose.rotation)
 }
 
 // Whether each of the n ground bodies of a lent list has an inverse mass of at least 0.
@@ -137,26 +124,15 @@ pub fn are_bodies_in_range(bodies: &[f32], n: usize) -> bool
     requires { (n ≤ at.BODIES) × (length bodies.now ≡ n * at.BODY) }
     ensures { result ≡ bodies_in_range bodies.now n }
 {
-    let mut i = 0usize;
-    while i < n {
-        let b = table::rows::get_body(bodies, i);
-        if is_not_negative(b.invmass) {
-            i += 1usize;
-        } else {
-            return false;
-        }
-    }
-    true
+    (0..n).all(|i| is_not_negative(table::rows::get_body(bodies, i).invmass))
 }
 
 // Whether each stored setting of wheel i is in its range.
-pub fn is_wheel_in_range(table: &[f32], i: usize) -> bool
-    requires { (length table.now ≡ at.SIZE) × (i < at.WHEELS) }
+#[tactic(auto, unfolding(crate::specs::Ranges::wheel_in_range, lists::specs::Pick::pick))]
+pub fn is_wheel_in_range(table: &[f32; SIZE], i: usize) -> bool
+    requires { i < at.WHEELS }
     ensures { result ≡ wheel_in_range binary32 table.now i }
 {
     let w = table::rows::get_wheel(table, i);
-    if !are_settings_in_range(w.settings) {
-        return false;
-    }
-    are_controls_in_range(wheel::steer::controls_of(w.controls))
+    are_settings_in_range(w.settings) && are_controls_in_range(Controls::from(w.controls))
 }

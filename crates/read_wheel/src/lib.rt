@@ -4,18 +4,18 @@
 ghost use Rattle.std.specs.Prelude.{◌≡◌};
 ghost use Rattle.std.specs.Float.{binary32};
 ghost use Rattle.refusals.specs.After.{after};
-ghost use Rattle.read_wheel.specs.Read.{refuse_read, not_read, reading_of, all_list, read_wheel};
+ghost use Rattle.refusals.specs.Refused.{answered, replied};
+ghost use Rattle.read_wheel.specs.Read.{refuse_read, not_read, read_reply, reading_of, all_list, read_wheel};
 
-use refusals::shape;
+use refusals::{Refusal, shape};
 use table::layout::*;
 use vector::Vector;
 use wheel::Wheel;
 
-// What a read answers: its number, the fifteen numbers of a wheel, its settled centre, where the tyre is drawn, and whether rule 7's axis and
+// What an accepted read answers: the fifteen numbers of a wheel, its settled centre, where the tyre is drawn, and whether rule 7's axis and
 // forward direction fell back to zero in the drive. `centre` is rule 1's, with the length from before the cast.
 #[derive(Clone, Copy)]
 pub struct Reading {
-    pub number: u32,
     pub centre: Vector,
     pub direction: Vector,
     pub axle: Vector,
@@ -37,48 +37,26 @@ pub const SETTLED: usize = READING + 3;
 
 pub const ALL: usize = SETTLED + 2;
 
-fn refuse_read(table: &[f32], whole: &[u32], wheel: u32) -> u32
-    ensures { result ≡ refuse_read table.now whole.now wheel }
+fn refuse_read(table: &[f32], whole: &[u32], wheel: u32) -> Result<(), Refusal>
+    ensures { answered result ≡ refuse_read table.now whole.now wheel }
 {
-    if !shape::is_shape_ok(table, whole) {
-        return 1;
-    }
+    let (table, whole) = shape::vehicle(table, whole)?;
     let count = whole[COUNT];
     if wheel >= count {
-        return 4;
+        return Err(Refusal::NoSuchWheel);
     }
     if whole[MARK] != DRIVEN {
-        return 5;
+        return Err(Refusal::WrongMoment);
     }
     if !table::bounds::stored_within(table, count as usize) {
-        return 2;
+        return Err(Refusal::BadNumber);
     }
-    0
+    Ok(())
 }
 
-fn not_read(number: u32) -> Reading
-    ensures { result ≡ not_read number }
-{
-    let zero = vector::zero();
-    Reading {
-        number,
-        centre: zero,
-        direction: zero,
-        axle: zero,
-        length: 0.0,
-        force: 0.0,
-        forward: 0.0,
-        side: 0.0,
-        skid: 0.0,
-        rotation: 0.0,
-        settled: zero,
-        noaxis: false,
-        noforward: false,
-    }
-}
-
+#[tactic(auto, unfolding(crate::specs::Read::reading_of))]
 fn reading_of(w: Wheel) -> Reading
-    ensures { result ≡ reading_of binary32 w }
+    ensures { read_reply result ≡ reading_of binary32 w }
 {
     let p = w.place;
     let m = w.motion;
@@ -87,7 +65,6 @@ fn reading_of(w: Wheel) -> Reading
     let axle = p.axle;
     let settled = wheel::ray::settled_centre(w);
     Reading {
-        number: 0,
         centre,
         direction,
         axle,
@@ -105,23 +82,22 @@ fn reading_of(w: Wheel) -> Reading
 
 // Reads one wheel after a drive. The settled centre is where the tyre is drawn. A wheel with no axis or no forward direction cannot push along it.
 // Takes: the table and the whole numbers of a vehicle; the wheel's number. It changes nothing.
-// Answers the number 0 with the wheel's centre, world direction, world axle, suspension length, force, forward and side impulse, skid,
+// Answers the wheel's centre, world direction, world axle, suspension length, force, forward and side impulse, skid,
 // rotation, settled centre, and whether it had no axis and no forward direction; or refuses with the first that holds, and zeros: 1, no
 // vehicle's table; 4, no such wheel; 5, not driven since the last set-up, add or aim; 2, a stored number that is not finite or above 2^40 in
 // magnitude.
-pub fn read_wheel(table: &[f32], whole: &[u32], wheel: u32) -> Reading
-    ensures { after result table.now whole.now ≡ read_wheel binary32 table.now whole.now wheel }
+pub fn read_wheel(table: &[f32], whole: &[u32], wheel: u32) -> Result<Reading, Refusal>
+    ensures { after (replied read_reply not_read result) table.now whole.now ≡ read_wheel binary32 table.now whole.now wheel }
 {
-    let number = refuse_read(table, whole, wheel);
-    if number != 0 {
-        return not_read(number);
-    }
-    reading_of(table::rows::get_wheel(table, wheel as usize))
+    refuse_read(table, whole, wheel)?;
+    let rows: &[f32; SIZE] = table.try_into().unwrap();
+    Ok(reading_of(table::rows::get_wheel(rows, wheel as usize)))
 }
 
 // The results of a read, in the order of docs/STREAM.md, the two answers last as numbers.
+#[tactic(auto, unfolding(crate::specs::Read::all_list, crate::specs::Read::settled_list, crate::specs::Read::reading_list))]
 pub fn all_numbers(r: Reading) -> [f32; ALL]
-    ensures { result ≡ all_list r }
+    ensures { result ≡ all_list (read_reply r) }
 {
     [
         r.centre.x,

@@ -17,3 +17,4 @@ pub mod RootRounds
 pub mod Bounds
 pub mod Clamping
 pub mod Constants
+pub mod Literals

@@ -122,7 +122,7 @@ fn positive(bits: u32) -> f32
     let field = bits >> FRACTION_BITS;
     let fraction = bits & FRACTION;
     if field == 0 {
-        let z = u32::leading_zeros(fraction) - 8;
+        let z = fraction.leading_zeros() - 8;
         return rounded(fraction << z, ORIGIN - z);
     }
     rounded(fraction | LEADING, field + (ORIGIN - 1))
@@ -133,17 +133,16 @@ fn positive(bits: u32) -> f32
 pub fn root(x: f32) -> f32
     ensures { result ≡ root_of binary32 x }
 {
-    if x != x {
+    if x.is_nan() {
         return x;
     }
-    let bits = f32::to_bits(x);
+    let bits = x.to_bits();
     if bits & MAGNITUDE == 0 {
         return x;
     }
     if bits >> SIGN_BIT == 1 {
         // infinity less infinity is a NaN
-        let infinity = f32::from_bits(INFINITY);
-        return infinity - infinity;
+        return f32::INFINITY - f32::INFINITY;
     }
     if bits >= INFINITY {
         return x;

@@ -2,6 +2,5 @@ pub mod Shape
 pub mod Handed
 pub mod Normals
 pub mod Steered
-pub mod WheelTests
-pub mod AnswerTests
 pub mod After
+pub mod Refused

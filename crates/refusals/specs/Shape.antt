@@ -1,5 +1,8 @@
 -- Document 01, refusal 1: the lent table and the whole numbers beside it. Definitions only.
-use Rattle.std.specs.Prelude.{ℕ, Bool, List, eqb, leb, length, get_or, Float}
+use Rattle.std.specs.Prelude.{ℕ, Bool, true, false, List, ◌≡◌, eqb, leb, length, get_or, Float, Result, MatchResult}
+use Rattle.std.specs.Borrow.{Bor}
+use Rattle.refusals.specs.declared.Refusal.{Refusal}
+use Rattle.refusals.specs.declared.Refusal.TheVariants.{NoVehicle}
 use Rattle.lists.specs.Pick.{◌and◌}
 use Rattle.table.specs.Layout as at
 
@@ -31,3 +34,7 @@ status_ok count mark = leb count at.WHEELS and leb mark at.DRIVEN
 -- refusal 1 is given by every call but set-up exactly when this is false
 unfoldable pub shape_ok : List Float → List ℕ → Bool
 shape_ok t m = sizes_ok t m and status_ok (count_of m) (mark_of m) and axes_ok (up_of m) (forward_of m)
+
+-- the lent numbers as they are, where the shape is right, or refusal 1
+abbrev pub Shaped : List Float → List ℕ → Result (Bor (List Float) × Bor (List ℕ)) Refusal → Type 0
+Shaped t m r = MatchResult r (λ lent. (lent.0.now ≡ t) × (lent.1.now ≡ m) × (shape_ok t m ≡ true)) (λ e. (e ≡ NoVehicle) × (shape_ok t m ≡ false))

@@ -1,38 +1,30 @@
 // The tests of every ray answer of a drive: refusals 6, 2 and 12.
-ghost use Rattle.std.specs.Prelude.{◌≡◌, ◌≤◌};
+ghost use Rattle.std.specs.Prelude.{◌≡◌, length};
 ghost use Rattle.std.specs.Float.{binary32};
-ghost use Rattle.lists.specs.Counted.{every};
 ghost use Rattle.wheel.specs.Ray.{answer_at};
-ghost use Rattle.table.specs.Layout as at;
-ghost use Rattle.refusals.specs.AnswerTests.{holds_of};
+ghost use Rattle.refusals.specs.Handed.{answers_ok, all_normals_handed};
+ghost use Rattle.refusals.specs.Normals.{all_normals_ok};
 
-use super::AnswerTest;
-use table::layout::WHEELS;
+use super::{handed, normals};
 use wheel::RayAnswer;
 
-fn holds_of(test: AnswerTest, answer: RayAnswer) -> bool
-    ensures { result ≡ holds_of binary32 test answer }
+// Refusal 6, with so many bodies in the list.
+pub fn are_answers_ok(bodies: u32, answers: &[RayAnswer]) -> bool
+    ensures { result ≡ answers_ok bodies (answer_at answers.now) (length answers.now) }
 {
-    match test {
-        AnswerTest::AnswerOk(bodies) => super::handed::is_answer_ok(bodies, answer),
-        AnswerTest::NormalsHanded => super::handed::are_normals_handed(answer),
-        AnswerTest::NormalsOk => super::normals::are_normals_ok(answer),
-    }
+    answers.iter().all(|a| handed::is_answer_ok(bodies, *a))
 }
 
-// Whether the test holds of each of the first n answers.
-pub fn holds_of_all(test: AnswerTest, answers: [RayAnswer; WHEELS], n: usize) -> bool
-    requires { n ≤ at.WHEELS }
-    ensures { result ≡ every (λ i. holds_of binary32 test (answer_at answers i)) n 0 }
+// Refusal 2.
+pub fn are_all_normals_handed(answers: &[RayAnswer]) -> bool
+    ensures { result ≡ all_normals_handed (answer_at answers.now) (length answers.now) }
 {
-    let mut i = 0usize;
-    while i < n {
-        let a = answers[i];
-        if holds_of(test, a) {
-            i += 1usize;
-        } else {
-            return false;
-        }
-    }
-    true
+    answers.iter().all(|a| handed::are_normals_handed(*a))
+}
+
+// Refusal 12.
+pub fn are_all_normals_ok(answers: &[RayAnswer]) -> bool
+    ensures { result ≡ all_normals_ok binary32 (answer_at answers.now) (length answers.now) }
+{
+    answers.iter().all(|a| normals::are_normals_ok(*a))
 }

@@ -1,7 +1,8 @@
 // Refusal 1: the lent table and the whole numbers beside it.
 ghost use Rattle.std.specs.Prelude.{◌≡◌};
-ghost use Rattle.refusals.specs.Shape.{sizes_ok, axes_ok, status_ok, shape_ok};
+ghost use Rattle.refusals.specs.Shape.{sizes_ok, axes_ok, status_ok, shape_ok, Shaped};
 
+use super::Refusal;
 use table::layout::*;
 
 // No vehicle has more wheels.
@@ -45,4 +46,17 @@ pub fn is_shape_ok(table: &[f32], whole: &[u32]) -> bool
         return false;
     }
     are_axes_ok(whole[UP], whole[FORWARD])
+}
+
+// The lent numbers as arrays of their sizes, unless a call is to refuse them with 1.
+pub fn vehicle<'a>(
+    table: &'a [f32],
+    whole: &'a [u32],
+) -> Result<(&'a [f32; SIZE], &'a [u32; WHOLE]), Refusal>
+    ensures { Shaped table.now whole.now result }
+{
+    if !is_shape_ok(table, whole) {
+        return Err(Refusal::NoVehicle);
+    }
+    Ok((table.try_into().unwrap(), whole.try_into().unwrap()))
 }

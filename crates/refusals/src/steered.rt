@@ -5,6 +5,7 @@ ghost use Rattle.table.specs.Layout as at;
 ghost use Rattle.table.specs.Rows.{wheel_at};
 ghost use Rattle.refusals.specs.Steered.{turn_ok, steering_ok, wheel_steered_ok};
 
+use table::layout::SIZE;
 use vector::Vector;
 use wheel::Steering;
 
@@ -28,12 +29,13 @@ fn is_steering_ok(direction: Vector, s: Steering) -> bool
 }
 
 // Whether the steering of wheel i of an aimed table makes a rotation.
-pub fn is_wheel_steered_ok(table: &[f32], i: usize) -> bool
-    requires { (length table.now ≡ at.SIZE) × (i < at.WHEELS) }
+#[tactic(auto, unfolding(crate::specs::Steered::wheel_steered_ok))]
+pub fn is_wheel_steered_ok(table: &[f32; SIZE], i: usize) -> bool
+    requires { i < at.WHEELS }
     ensures { result ≡ wheel_steered_ok binary32 (wheel_at table.now i) }
 {
     let w = table::rows::get_wheel(table, i);
     let c = w.controls;
     let p = w.place;
-    is_steering_ok(p.direction, wheel::steer::steering_of(c.steering))
+    is_steering_ok(p.direction, Steering::from(c.steering))
 }

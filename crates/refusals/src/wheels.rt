@@ -1,34 +1,25 @@
 // The tests of every wheel of a table: refusals 10 and 17.
-ghost use Rattle.std.specs.Prelude.{◌≡◌, ◌<◌, ◌≤◌, length};
+ghost use Rattle.std.specs.Prelude.{◌≡◌, ◌≤◌};
 ghost use Rattle.std.specs.Float.{binary32};
-ghost use Rattle.lists.specs.Counted.{every};
 ghost use Rattle.table.specs.Layout as at;
-ghost use Rattle.refusals.specs.WheelTests.{wheel_holds};
+ghost use Rattle.ranges.specs.Ranges.{stored_in_range};
+ghost use Rattle.refusals.specs.Steered.{all_steered_ok};
 
-use super::WheelTest;
+use super::steered;
+use table::layout::SIZE;
 
-fn wheel_holds(test: WheelTest, table: &[f32], i: usize) -> bool
-    requires { (length table.now ≡ at.SIZE) × (i < at.WHEELS) }
-    ensures { result ≡ wheel_holds binary32 test table.now i }
+// Refusal 10, of what the first n wheels have stored.
+pub fn are_wheels_in_range(table: &[f32; SIZE], n: usize) -> bool
+    requires { n ≤ at.WHEELS }
+    ensures { result ≡ stored_in_range binary32 table.now n }
 {
-    match test {
-        WheelTest::InRange => ranges::is_wheel_in_range(table, i),
-        WheelTest::Steered => super::steered::is_wheel_steered_ok(table, i),
-    }
+    (0..n).all(|i| ranges::is_wheel_in_range(table, i))
 }
 
-// Whether the test holds of each of the first n wheels.
-pub fn holds_of_wheels(test: WheelTest, table: &[f32], n: usize) -> bool
-    requires { (length table.now ≡ at.SIZE) × (n ≤ at.WHEELS) }
-    ensures { result ≡ every (wheel_holds binary32 test table.now) n 0 }
+// Refusal 17, of what an aim makes of the steering of the first n wheels.
+pub fn are_wheels_steered_ok(table: &[f32; SIZE], n: usize) -> bool
+    requires { n ≤ at.WHEELS }
+    ensures { result ≡ all_steered_ok binary32 table.now n }
 {
-    let mut i = 0usize;
-    while i < n {
-        if wheel_holds(test, table, i) {
-            i += 1usize;
-        } else {
-            return false;
-        }
-    }
-    true
+    (0..n).all(|i| steered::is_wheel_steered_ok(table, i))
 }

@@ -1,15 +1,15 @@
 -- Stored scenarios: what one leaves in the window, and where the next one begins. Definitions only.
-use Rattle.std.specs.Prelude.{ℕ, ◌-◌, ◌<◌, List, [], ◌≡◌, Float}
+use Rattle.std.specs.Prelude.{ℕ, ◌-◌, ◌<◌, List, [], ◌≡◌}
 use Rattle.lists.specs.Part.{part}
 use Rattle.lists.specs.Puts.{Puts}
+use Rattle.perform.specs.declared.Car.{Car}
 use Rattle.session.specs.Program.{start_car}
 use Rattle.console.specs.Serves.{Serves}
 
--- a scenario was run from the bytes of a window, with a table and whole numbers of its own
+-- a scenario was run from the bytes of a window, with a car of its own
 pub record Plays (bytes : List ℕ) (r : ℕ) (window : List ℕ) : Type 0 where
-  pub table : List Float
-  pub whole : List ℕ
-  pub serves : Serves start_car bytes r window table whole
+  pub car : Car
+  pub serves : Serves start_car bytes r window car
 
 -- the next one begins a byte behind the start of what is left: nowhere, with what stands there, or with the bytes that are read where nothing does
 pub data Begins (left r : ℕ) (before after : List ℕ) : Type 0 where

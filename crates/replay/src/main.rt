@@ -5,9 +5,10 @@ ghost use Rattle.std.specs.Prelude.{◌≤◌, take};
 ghost use Rattle.session.specs.Layout as layout;
 ghost use Rattle.replay.specs.Scenarios.{Plays, Begins};
 
+use lines::text::Text;
+use perform::Car;
 use session::layout::{TEXT_BYTES, WINDOW_BYTES};
 use std::io::{Read, Write};
-use table::layout::{SIZE, WHOLE};
 
 // The bytes of a code 0.
 const END_BYTES: usize = 1;
@@ -18,14 +19,13 @@ fn play<R: Read, W: Write>(
     writer: &mut W,
     window: &mut [u8; WINDOW_BYTES],
     filled: usize,
-    out: &mut [u8; TEXT_BYTES],
+    text: &mut Text<TEXT_BYTES>,
 ) -> usize
     requires { filled ≤ layout.WINDOW-BYTES }
     ensures { Plays (take filled window.old) result window.new × (result ≤ layout.WINDOW-BYTES) }
 {
-    let mut table = [0.0; SIZE];
-    let mut whole = [0u32; WHOLE];
-    console::run(reader, writer, window, filled, &mut table, &mut whole, out)
+    let mut car = Car::new();
+    console::run(reader, writer, window, filled, &mut car, text)
 }
 
 // Moves what stands one byte behind the start of the code that ended a scenario to the window's start, reads on if that is nothing, and answers how many
@@ -44,17 +44,18 @@ fn next<R: Read>(reader: &mut R, window: &mut [u8; WINDOW_BYTES], left: usize) -
     console::fill(reader, window, 0)
 }
 
-// The scenarios are counted down, so that the loop ends.
+// A proved loop has to end: the scenarios are counted, up to a number that no run reaches.
 fn main(rt: HostRuntime) {
     let mut reader = rt.stdin();
     let mut writer = rt.stdout();
     let mut window = [0u8; WINDOW_BYTES];
-    let mut out = [0u8; TEXT_BYTES];
+    let mut text: Text<TEXT_BYTES> = Text::new();
     let mut filled = console::fill(&mut reader, &mut window, 0);
-    let mut scenarios = u64::MAX;
-    while scenarios > 0 && filled > 0 {
-        scenarios -= 1u64;
-        let left = play(&mut reader, &mut writer, &mut window, filled, &mut out);
+    for _ in 0..u64::MAX {
+        if filled == 0 {
+            return;
+        }
+        let left = play(&mut reader, &mut writer, &mut window, filled, &mut text);
         filled = next(&mut reader, &mut window, left);
     }
 }

@@ -4,8 +4,8 @@ use mathlib.Core.List.{List, [], ◌∷◌, ◌++◌}
 use mathlib.Core.Path.{◌≡◌, refl, sym, ap, ◌∙◌}
 use native.Mathlib.Numerals.{add-one}
 use native.Mathlib.Omega.{arith}
-use lib.ListN.{length, take, drop, get_or, length-append, drop_of_length-le}
-use lib.Seq.{drop-cons, get_or-take, length-take-le}
+use lib.ListN.{length, drop, get_or, length-append, drop_of_length-le}
+use lib.Seq.{drop-cons}
 use lib.Ieee.{Format}
 use Rattle.lists.specs.Part.{paste}
 use Rattle.lists.proofs.Parts.{length_paste, paste_paste}
@@ -39,18 +39,15 @@ all_put {before} {now} {at} {next} {rest} {whole} s e = record {
   end = (let k : length rest ≡ 0 = ap length e in omega (arith, s.end));
 }
 
--- ---- the sights of the first n wheels, once i of them are put
-pub sights_more : (f : Format) (l : List Sight) (n i : ℕ) (z : Sight) → i < n → n ≤ length l →
+-- ---- the sights of the wheels, once i of them are put
+pub sights_more : (f : Format) (l : List Sight) (i : ℕ) (z : Sight) → i < length l →
     let s = get_or l i z in
-    words_of f (sights_list (drop i (take n l))) ≡ words_of f (sight_list s) ++ words_of f (sights_list (drop (i + 1) (take n l)))
+    words_of f (sights_list (drop i l)) ≡ words_of f (sight_list s) ++ words_of f (sights_list (drop (i + 1) l))
 unfolding sights_list
-sights_more f l n i z h k =
-    let long : length (take n l) ≡ n = length-take-le n l k in
-    let first : drop i (take n l) ≡ get_or l i z ∷ drop (i + 1) (take n l) = rw (add-one, ← get_or-take n l i z h) (drop-cons (take n l) i z (omega arith)) in
+sights_more f l i z h =
+    let first : drop i l ≡ get_or l i z ∷ drop (i + 1) l = rw add-one (drop-cons l i z h) in
     rw (first, ← words_append)
 
-pub sights_end : (f : Format) (l : List Sight) (n i : ℕ) → n ≤ i → n ≤ length l → words_of f (sights_list (drop i (take n l))) ≡ []
+pub sights_end : (f : Format) (l : List Sight) (i : ℕ) → length l ≤ i → words_of f (sights_list (drop i l)) ≡ []
 unfolding sights_list words_of
-sights_end f l n i h k =
-    let none : length (take n l) ≤ i = rw (length-take-le n l k) h in
-    rw (drop_of_length-le (take n l) none)
+sights_end f l i h = rw (drop_of_length-le l h)

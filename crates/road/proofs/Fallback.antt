@@ -3,6 +3,7 @@
 use Prim.Native.Nat.{ℕ}
 use mathlib.Core.Bool.{true, false}
 use mathlib.Core.Path.{◌≡◌, sym, subst}
+use Rattle.std.specs.Prelude.{Option}
 use lib.Ieee.{Float, Format, eq}
 use lib.Ieee.Fits.{sub-fits}
 use Rattle.real.specs.Number.{zero}
@@ -14,7 +15,7 @@ use Rattle.body.specs.declared.Body.{Body}
 use Rattle.tyre.specs.declared.WheelTuning.{WheelTuning}
 use Rattle.tyre.specs.Demand.{rolling_response}
 use Rattle.tyre.proofs.Idle.{side_nought, rolling_nought}
-use Rattle.wheel.specs.declared.Ground.{Ground}
+use Rattle.body.specs.declared.GroundBody.{GroundBody}
 use Rattle.wheel.specs.declared.Wheel.{Wheel}
 use Rattle.road.specs.Contact.{contact_axis, contact_forward}
 use Rattle.road.specs.Step.{side_demand}
@@ -45,7 +46,7 @@ no_axis_no_forward f axle normal h =
     subst (λ (axis : Vector). (normalize_or_zero f (cross_v f normal axis)).fellback ≡ true) (sym (axis_zero f axle normal h)) (falls_back f (cross_v f normal zero_v) (cross_zero f normal))
 
 -- ---- the demands
-pub side_of_zero : (f : Format) (tuning : WheelTuning) (chassis : Body) (ground : Ground) (axis : Vector) (w : Wheel) → axis ≡ zero_v → Nought (side_demand f tuning chassis ground axis w)
+pub side_of_zero : (f : Format) (tuning : WheelTuning) (chassis : Body) (ground : Option GroundBody) (axis : Vector) (w : Wheel) → axis ≡ zero_v → Nought (side_demand f tuning chassis ground axis w)
 unfolding side_demand
 side_of_zero f tuning chassis ground axis w e = rw e (side_nought f _ _ _ (zero_dot f _))
 

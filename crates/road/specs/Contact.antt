@@ -1,6 +1,6 @@
 -- Document 01, rule 7 for one grounded wheel, over the chassis and the ground body under it: its directions, the speeds of the chassis over the ground, and the sums of masses. Definitions only.
 -- u is the chassis velocity at the contact point less a counted ground body's; d is that point less a body's centre of mass. Sums run left to right, chassis first.
-use Rattle.std.specs.Prelude.{Bool, cond, Float}
+use Rattle.std.specs.Prelude.{Bool, cond, Option, None, Some, Float}
 use Rattle.std.specs.Float.{Format}
 use Rattle.std.specs.Float.Ieee.{add}
 use Rattle.real.specs.Number.{zero}
@@ -13,8 +13,7 @@ use Rattle.body.specs.Body.{velocity_at_point, impulse_denominator}
 use Rattle.wheel.specs.declared.Wheel.{Wheel}
 use Rattle.wheel.specs.declared.Directions.{Directions}
 use Rattle.wheel.specs.declared.Fallbacks.{Fallbacks}
-use Rattle.wheel.specs.declared.Ground.{Ground}
-use Rattle.wheel.specs.declared.Ground.TheVariants.{Nothing, On}
+use Rattle.body.specs.declared.GroundBody.{GroundBody}
 
 -- Axis = axle less normal × (axle dot normal), normalised.
 unfoldable pub contact_axis : Format → Vector → Vector → Normalized
@@ -36,25 +35,25 @@ fallbacks_of contact d =
     cond contact (record { axis = flag_number d.axis.fellback; forward = flag_number d.forward.fellback }) (record { axis = zero; forward = zero })
 
 -- A ground body counts for the side demand only if dynamic.
-unfoldable pub dynamic_ground : Ground → Ground
-dynamic_ground Nothing = Nothing
-dynamic_ground (On b) = cond b.dynamic (On b) Nothing
+unfoldable pub dynamic_ground : Option GroundBody → Option GroundBody
+dynamic_ground None = None
+dynamic_ground (Some b) = cond b.dynamic (Some b) None
 
 -- u
-unfoldable pub relative_velocity : Format → Body → Ground → Vector → Vector
-relative_velocity f chassis Nothing p = velocity_at_point f chassis p
-relative_velocity f chassis (On b) p = sub_v f (velocity_at_point f chassis p) (velocity_at_point f b.body p)
+unfoldable pub relative_velocity : Format → Body → Option GroundBody → Vector → Vector
+relative_velocity f chassis None p = velocity_at_point f chassis p
+relative_velocity f chassis (Some b) p = sub_v f (velocity_at_point f chassis p) (velocity_at_point f b.body p)
 
 -- |I(d × axis)|²
 unfoldable pub swing_of : Format → Body → Vector → Vector → Float
 swing_of f b p axis = let t = inertia_dot f b.inertia (cross_v f (sub_v f p b.centre) axis) in dot_v f t t
 
 -- sum of inverse masses + |I(d × axis)|² for each body
-unfoldable pub jacobian_diagonal : Format → Body → Ground → Vector → Vector → Float
-jacobian_diagonal f chassis Nothing p axis = add f chassis.invmass (swing_of f chassis p axis)
-jacobian_diagonal f chassis (On b) p axis = add f (add f (add f chassis.invmass b.body.invmass) (swing_of f chassis p axis)) (swing_of f b.body p axis)
+unfoldable pub jacobian_diagonal : Format → Body → Option GroundBody → Vector → Vector → Float
+jacobian_diagonal f chassis None p axis = add f chassis.invmass (swing_of f chassis p axis)
+jacobian_diagonal f chassis (Some b) p axis = add f (add f (add f chassis.invmass b.body.invmass) (swing_of f chassis p axis)) (swing_of f b.body p axis)
 
 -- the sum of denominators; here any named ground body counts
-unfoldable pub denominators_of : Format → Body → Ground → Vector → Vector → Float
-denominators_of f chassis Nothing p n = impulse_denominator f chassis p n
-denominators_of f chassis (On b) p n = add f (impulse_denominator f chassis p n) (impulse_denominator f b.body p n)
+unfoldable pub denominators_of : Format → Body → Option GroundBody → Vector → Vector → Float
+denominators_of f chassis None p n = impulse_denominator f chassis p n
+denominators_of f chassis (Some b) p n = add f (impulse_denominator f chassis p n) (impulse_denominator f b.body p n)

@@ -1,5 +1,5 @@
 -- Document 01, rules 6 to 10 for one wheel of a drive, over its row, the chassis and its ground. `tuning` is the one that counts in the step. Definitions only.
-use Rattle.std.specs.Prelude.{ℕ, Bool, cond, Float}
+use Rattle.std.specs.Prelude.{ℕ, Bool, cond, Option, Float}
 use Rattle.std.specs.Float.{Format}
 use Rattle.std.specs.Float.Ieee.{add, sub, mul, div}
 use Rattle.real.specs.Number.{zero, one, ratio}
@@ -15,7 +15,7 @@ use Rattle.tyre.specs.Demand.{side_response, rolling_response, rolling_of}
 use Rattle.tyre.specs.Grip.{with_skid, airborne, rescaled_of, limit_of}
 use Rattle.wheel.specs.declared.Wheel.{Wheel}
 use Rattle.wheel.specs.declared.Directions.{Directions}
-use Rattle.wheel.specs.declared.Ground.{Ground}
+use Rattle.body.specs.declared.GroundBody.{GroundBody}
 use Rattle.wheel.specs.declared.RayAnswer.{RayAnswer}
 use Rattle.wheel.specs.Parts.{with_rotation, with_force}
 use Rattle.wheel.specs.Ray.{ray_cast, is_grounded}
@@ -41,24 +41,24 @@ unfoldable pub wheel_limit : Format → WheelTuning → Float → Wheel → Floa
 wheel_limit f tuning dt w = limit_of f w.motion.force dt tuning.slip
 
 -- Rule 7. The two demands of a grounded wheel that has this axis and this forward direction.
-unfoldable pub side_demand : Format → WheelTuning → Body → Ground → Vector → Wheel → Float
+unfoldable pub side_demand : Format → WheelTuning → Body → Option GroundBody → Vector → Wheel → Float
 side_demand f tuning chassis surface axis w =
     let counted = dynamic_ground surface in
     side_response f (dot_v f axis (relative_velocity f chassis counted w.info.point)) (jacobian_diagonal f chassis counted w.info.point axis) tuning.sideways
 
-unfoldable pub rolling_demand : Format → Float → Body → Ground → ℕ → Vector → Wheel → Float
+unfoldable pub rolling_demand : Format → Float → Body → Option GroundBody → ℕ → Vector → Wheel → Float
 rolling_demand f dt chassis surface grounded forward w =
     rolling_of f dt w.controls.engine w.controls.brake
     (rolling_response f (dot_v f forward (relative_velocity f chassis surface w.info.point)) (denominators_of f chassis surface w.info.point forward) grounded)
 
 -- Rules 7 and 8. Both demands of the wheel with its skid, before the rescale. Airborne: impulses 0, skid 1.
-unfoldable pub friction_of : Format → WheelTuning → Float → Body → Bool → Ground → ℕ → Directions → Wheel → Friction
+unfoldable pub friction_of : Format → WheelTuning → Float → Body → Bool → Option GroundBody → ℕ → Directions → Wheel → Friction
 friction_of f tuning dt chassis contact surface grounded d w =
     cond contact (with_skid f (rolling_demand f dt chassis surface grounded d.forward.vector w) (side_demand f tuning chassis surface d.axis.vector w) (wheel_limit f tuning dt w)) airborne
 
 -- Demand 3's last sentence: the two impulses and the skid of one wheel in a drive, from the kept chassis, the chassis after the springs, the time step, its ground,
 -- the number of grounded wheels, its own hit, its own stored row and the tuning that counts.
-unfoldable pub impulses_of : Format → WheelTuning → Body → Body → Float → Ground → ℕ → RayAnswer → Wheel → Friction
+unfoldable pub impulses_of : Format → WheelTuning → Body → Body → Float → Option GroundBody → ℕ → RayAnswer → Wheel → Friction
 impulses_of f tuning kept sprung dt surface grounded answer w =
     let hung = suspended_of f tuning kept.invmass (is_grounded answer) (ray_cast f tuning kept answer w) in
     rescaled_of f (friction_of f tuning dt sprung (is_grounded answer) surface grounded (directions_of f hung) hung)

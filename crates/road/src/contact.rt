@@ -3,11 +3,12 @@ ghost use Rattle.std.specs.Prelude.{◌≡◌};
 ghost use Rattle.std.specs.Float.{binary32};
 ghost use Rattle.road.specs.Contact.{contact_axis, contact_forward, directions_of, fallbacks_of, dynamic_ground, relative_velocity, swing_of, jacobian_diagonal, denominators_of};
 
-use body::Body;
+use body::{Body, GroundBody};
 use vector::{Normalized, Vector};
-use wheel::{Directions, Fallbacks, Ground, Wheel};
+use wheel::{Directions, Fallbacks, Wheel};
 
 // The wheel's axis on the contact plane.
+#[tactic(auto, unfolding(crate::specs::Contact::contact_axis))]
 fn contact_axis(axle: Vector, normal: Vector) -> Normalized
     ensures { result ≡ contact_axis binary32 axle normal }
 {
@@ -15,6 +16,7 @@ fn contact_axis(axle: Vector, normal: Vector) -> Normalized
 }
 
 // Its rolling direction there.
+#[tactic(auto, unfolding(crate::specs::Contact::contact_forward))]
 fn contact_forward(normal: Vector, axis: Vector) -> Normalized
     ensures { result ≡ contact_forward binary32 normal axis }
 {
@@ -22,6 +24,7 @@ fn contact_forward(normal: Vector, axis: Vector) -> Normalized
 }
 
 // Both directions of a wheel.
+#[tactic(auto, unfolding(crate::specs::Contact::directions_of))]
 pub fn directions_of(w: Wheel) -> Directions
     ensures { result ≡ directions_of binary32 w }
 {
@@ -32,6 +35,7 @@ pub fn directions_of(w: Wheel) -> Directions
 }
 
 // Change request 2026-05: whether the two fell back to zero, as the row keeps it; both are no for an airborne wheel.
+#[tactic(auto, unfolding(crate::specs::Contact::fallbacks_of))]
 pub fn fallbacks_of(contact: bool, d: Directions) -> Fallbacks
     ensures { result ≡ fallbacks_of contact d }
 {
@@ -49,31 +53,27 @@ pub fn fallbacks_of(contact: bool, d: Directions) -> Fallbacks
 }
 
 // The ground as the side demand counts it: a body that is not dynamic is none.
-pub fn dynamic_ground(surface: Ground) -> Ground
+#[tactic(auto, unfolding(crate::specs::Contact::dynamic_ground))]
+pub fn dynamic_ground(surface: Option<GroundBody>) -> Option<GroundBody>
     ensures { result ≡ dynamic_ground surface }
 {
-    match surface {
-        Ground::Nothing => Ground::Nothing,
-        Ground::On(b) => if b.dynamic {
-            Ground::On(b)
-        } else {
-            Ground::Nothing
-        },
-    }
+    surface.filter(|b| b.dynamic)
 }
 
 // The chassis' velocity at p less the ground's.
-pub fn relative_velocity(chassis: Body, surface: Ground, p: Vector) -> Vector
+#[tactic(auto, unfolding(crate::specs::Contact::relative_velocity))]
+pub fn relative_velocity(chassis: Body, surface: Option<GroundBody>, p: Vector) -> Vector
     ensures { result ≡ relative_velocity binary32 chassis surface p }
 {
     let v = body::velocity_at_point(chassis, p);
     match surface {
-        Ground::Nothing => v,
-        Ground::On(b) => vector::sub(v, body::velocity_at_point(b.body, p)),
+        None => v,
+        Some(b) => vector::sub(v, body::velocity_at_point(b.body, p)),
     }
 }
 
 // The square of what a unit impulse along the axis, at p, turns the body by.
+#[tactic(auto, unfolding(crate::specs::Contact::swing_of))]
 fn swing_of(b: Body, p: Vector, axis: Vector) -> f32
     ensures { result ≡ swing_of binary32 b p axis }
 {
@@ -82,12 +82,13 @@ fn swing_of(b: Body, p: Vector, axis: Vector) -> f32
 }
 
 // The source's jac_diag_ab: of resolve_single_unilateral, and of resolve_single_bilateral where a body counts.
-pub fn jacobian_diagonal(chassis: Body, surface: Ground, p: Vector, axis: Vector) -> f32
+#[tactic(auto, unfolding(crate::specs::Contact::jacobian_diagonal))]
+pub fn jacobian_diagonal(chassis: Body, surface: Option<GroundBody>, p: Vector, axis: Vector) -> f32
     ensures { result ≡ jacobian_diagonal binary32 chassis surface p axis }
 {
     match surface {
-        Ground::Nothing => chassis.invmass + swing_of(chassis, p, axis),
-        Ground::On(b) => {
+        None => chassis.invmass + swing_of(chassis, p, axis),
+        Some(b) => {
             let under = b.body;
             chassis.invmass + under.invmass + swing_of(chassis, p, axis) + swing_of(under, p, axis)
         }
@@ -95,12 +96,13 @@ pub fn jacobian_diagonal(chassis: Body, surface: Ground, p: Vector, axis: Vector
 }
 
 // The sum of the bodies' denominators, along n at p.
-pub fn denominators_of(chassis: Body, surface: Ground, p: Vector, n: Vector) -> f32
+#[tactic(auto, unfolding(crate::specs::Contact::denominators_of))]
+pub fn denominators_of(chassis: Body, surface: Option<GroundBody>, p: Vector, n: Vector) -> f32
     ensures { result ≡ denominators_of binary32 chassis surface p n }
 {
     let own = body::impulse_denominator(chassis, p, n);
     match surface {
-        Ground::Nothing => own,
-        Ground::On(b) => own + body::impulse_denominator(b.body, p, n),
+        None => own,
+        Some(b) => own + body::impulse_denominator(b.body, p, n),
     }
 }

@@ -4,12 +4,13 @@ ghost use Rattle.std.specs.Float.{binary32};
 ghost use Rattle.road.specs.Step.{contact_force, wheel_force, apply_suspension, wheel_limit, side_demand, rolling_demand, friction_of, side_point, apply_friction, contact_spin, spun_by, update_rotation};
 
 use super::contact;
-use body::{Body, Chassis};
+use body::{Body, Chassis, GroundBody};
 use tyre::{Friction, WheelTuning, demand, grip, suspension};
 use vector::Vector;
-use wheel::{Directions, Ground, Wheel};
+use wheel::{Directions, Motion, Wheel};
 
 // Rule 6: the force of the wheel's spring in contact.
+#[tactic(auto, unfolding(crate::specs::Step::contact_force))]
 fn contact_force(tuning: WheelTuning, invmass: f32, w: Wheel) -> f32
     ensures { result ≡ contact_force binary32 tuning invmass w }
 {
@@ -17,6 +18,7 @@ fn contact_force(tuning: WheelTuning, invmass: f32, w: Wheel) -> f32
 }
 
 // Rule 6: the force of the wheel's spring; 0 in the air.
+#[tactic(auto, unfolding(crate::specs::Step::wheel_force))]
 pub fn wheel_force(tuning: WheelTuning, invmass: f32, contact: bool, w: Wheel) -> f32
     ensures { result ≡ wheel_force binary32 tuning invmass contact w }
 {
@@ -28,6 +30,7 @@ pub fn wheel_force(tuning: WheelTuning, invmass: f32, contact: bool, w: Wheel) -
 }
 
 // Rule 6: the chassis after the impulse of the wheel's spring, whose force is cut to the maximum.
+#[tactic(auto, unfolding(crate::specs::Step::apply_suspension))]
 pub fn apply_suspension(tuning: WheelTuning, dt: f32, w: Wheel, chassis: Chassis) -> Chassis
     ensures { result ≡ apply_suspension binary32 tuning dt w chassis }
 {
@@ -38,6 +41,7 @@ pub fn apply_suspension(tuning: WheelTuning, dt: f32, w: Wheel, chassis: Chassis
 }
 
 // Rule 6: the wheel's grip limit.
+#[tactic(auto, unfolding(crate::specs::Step::wheel_limit))]
 pub fn wheel_limit(tuning: WheelTuning, dt: f32, w: Wheel) -> f32
     ensures { result ≡ wheel_limit binary32 tuning dt w }
 {
@@ -46,7 +50,14 @@ pub fn wheel_limit(tuning: WheelTuning, dt: f32, w: Wheel) -> f32
 
 // Rule 7: the side demand of a grounded wheel with this axis: the source's resolve_single_bilateral and resolve_single_unilateral in one, times
 // the side stiffness.
-fn side_demand(tuning: WheelTuning, chassis: Body, surface: Ground, axis: Vector, w: Wheel) -> f32
+#[tactic(auto, unfolding(crate::specs::Step::side_demand))]
+fn side_demand(
+    tuning: WheelTuning,
+    chassis: Body,
+    surface: Option<GroundBody>,
+    axis: Vector,
+    w: Wheel,
+) -> f32
     ensures { result ≡ side_demand binary32 tuning chassis surface axis w }
 {
     let p = w.info.point;
@@ -57,10 +68,11 @@ fn side_demand(tuning: WheelTuning, chassis: Body, surface: Ground, axis: Vector
 }
 
 // Rule 7: the rolling demand of a grounded wheel with this rolling direction.
+#[tactic(auto, unfolding(crate::specs::Step::rolling_demand))]
 fn rolling_demand(
     dt: f32,
     chassis: Body,
-    surface: Ground,
+    surface: Option<GroundBody>,
     grounded: u8,
     forward: Vector,
     w: Wheel,
@@ -75,12 +87,13 @@ fn rolling_demand(
 }
 
 // Rules 7 and 8: the demands and the skid of the wheel with these directions, before the rescale.
+#[tactic(auto, unfolding(crate::specs::Step::friction_of))]
 pub fn friction_of(
     tuning: WheelTuning,
     dt: f32,
     chassis: Body,
     contact: bool,
-    surface: Ground,
+    surface: Option<GroundBody>,
     grounded: u8,
     d: Directions,
     w: Wheel,
@@ -97,6 +110,7 @@ pub fn friction_of(
 }
 
 // Rule 9: where the side impulse is applied.
+#[tactic(auto, unfolding(crate::specs::Step::side_point))]
 fn side_point(roll: f32, up: Vector, point: Vector, centre: Vector) -> Vector
     ensures { result ≡ side_point binary32 roll up point centre }
 {
@@ -105,6 +119,7 @@ fn side_point(roll: f32, up: Vector, point: Vector, centre: Vector) -> Vector
 }
 
 // Rule 9: the chassis after the two impulses of the wheel with these directions.
+#[tactic(auto, unfolding(crate::specs::Step::apply_friction))]
 pub fn apply_friction(up: Vector, d: Directions, w: Wheel, chassis: Chassis) -> Chassis
     ensures { result ≡ apply_friction binary32 up d w chassis }
 {
@@ -120,6 +135,7 @@ pub fn apply_friction(up: Vector, d: Directions, w: Wheel, chassis: Chassis) -> 
 }
 
 // Rule 10: the spin of a wheel in contact.
+#[tactic(auto, unfolding(crate::specs::Step::contact_spin))]
 fn contact_spin(dt: f32, chassis: Body, w: Wheel) -> f32
     ensures { result ≡ contact_spin binary32 dt chassis w }
 {
@@ -130,20 +146,20 @@ fn contact_spin(dt: f32, chassis: Body, w: Wheel) -> f32
 }
 
 // Rule 10: the wheel rotated by a spin.
+#[tactic(auto, using(real::proofs::Literals::kept_is), unfolding(crate::specs::Step::spun_by))]
 fn spun_by(spin: f32, w: Wheel) -> Wheel
     ensures { result ≡ spun_by binary32 spin w }
 {
-    let mut m = w.motion;
-    let rotation = m.rotation + spin;
-    let kept = spin * 0.99;
-    m.rotation = rotation;
-    m.spin = kept;
-    let mut r = w;
-    r.motion = m;
-    r
+    let motion = Motion {
+        rotation: w.motion.rotation + spin,
+        spin: spin * 0.99,
+        ..w.motion
+    };
+    Wheel { motion, ..w }
 }
 
 // Rule 10: the wheel after the drive.
+#[tactic(auto, unfolding(crate::specs::Step::update_rotation))]
 pub fn update_rotation(dt: f32, contact: bool, chassis: Body, w: Wheel) -> Wheel
     ensures { result ≡ update_rotation binary32 dt contact chassis w }
 {

@@ -1,12 +1,11 @@
 -- Which patterns are those of a NaN, in the terms of the code, and what is read and written there. Assumes nothing.
 use Prim.Native.Nat.{ℕ, ◌*◌, ◌%◌, ◌<◌, ◌≤◌}
-use mathlib.Core.Bool.{Bool, true, false, not, true≢false}
+use mathlib.Core.Bool.{Bool, true, not}
 use mathlib.Core.Path.{◌≡◌, refl, sym, ◌∙◌, subst}
 use native.Mathlib.Nat.{not-le_of_lt}
 use lib.Dec.{T, ltb, lt→ltb, ltb→lt, not_T}
-use lib.Ieee.{Float, nan, inf, fin, Format, hid, ones, top, is_nan, ne, of_bits, nan_bits}
+use lib.Ieee.{Float, nan, inf, fin, Format, hid, ones, top, is_nan, of_bits, nan_bits}
 use lib.Ieee.Bits.{nan_bits_above, nan_bits_is}
-use lib.Ieee.Compare.{differs_from_itself, nan_differs}
 
 -- ---- a pattern
 nan_of_is_nan : (x : Float) → T (is_nan x) → x ≡ nan
@@ -23,11 +22,5 @@ no_nan_of_not_above f b h =
     subst (λ (t : Bool). T (not t)) (sym (nan_bits_above f b)) (not_T (ltb (ones f * hid f) (b % top f)) (λ (t : T (ltb (ones f * hid f) (b % top f))). not-le_of_lt (ltb→lt (ones f * hid f) (b % top f) t) h))
 
 -- ---- a float
-pub nan_of_differs : (x : Float) → ne x x ≡ true → x ≡ nan
-nan_of_differs x e = differs_from_itself x (subst T (sym e) tt)
-
-pub no_nan_of_same : (x : Float) → ne x x ≡ false → T (not (is_nan x))
-unfolding is_nan
-no_nan_of_same nan e = absurd (true≢false (sym nan_differs ∙ e))
-no_nan_of_same (inf s) e = tt
-no_nan_of_same (fin s m d) e = tt
+pub nan_of_test : (x : Float) → is_nan x ≡ true → x ≡ nan
+nan_of_test x e = nan_of_is_nan x (subst T (sym e) tt)

@@ -24,8 +24,8 @@ pub fn float_of(bits: u32) -> f32
 pub fn bits_of(x: f32) -> u32
     ensures { result ≡ to_bits format x }
 {
-    if x != x {
+    if x.is_nan() {
         return NAN;
     }
-    f32::to_bits(x)
+    x.to_bits()
 }

@@ -1,17 +1,18 @@
 // The fields of a scenario code, read from its words.
 ghost use Rattle.std.specs.Prelude.{◌≡◌, ◌+◌, ◌<◌, ◌≤◌, length};
-ghost use Rattle.grammar.specs.Layout as code;
 ghost use Rattle.scenario.specs.Format.{format};
 ghost use Rattle.scenario.specs.Decode.{float_from, floats_from, vector_from, rolled_from, settings_from, wheel_from, controls_from, controls_by_angle_from, chassis_from};
 
 use super::bits;
 use super::layout::*;
 use body::Chassis;
+use grammar::layout::CODE_WORDS;
 use table::{layout, parts, rows};
 use vector::Vector;
 use wheel::{Controls, ROLL_INFLUENCE, Settings};
 
 // The float that stands at a.
+#[tactic(auto, unfolding(crate::specs::Decode::float_from))]
 pub fn float_from(words: &[u32], a: usize) -> f32
     requires { a < length words.now }
     ensures { result ≡ float_from format words.now a }
@@ -20,6 +21,7 @@ pub fn float_from(words: &[u32], a: usize) -> f32
     bits::float_of(bits)
 }
 
+#[tactic(auto, unfolding(crate::specs::Decode::vector_from))]
 pub fn vector_from(words: &[u32], a: usize) -> Vector
     requires { a + 2 < length words.now }
     ensures { result ≡ vector_from format words.now a }
@@ -35,16 +37,14 @@ fn floats_from(words: &[u32], a: usize, numbers: &mut [f32])
     requires { a + length numbers.old ≤ length words.now }
     ensures { numbers.new ≡ floats_from format words.now a (length numbers.old) }
 {
-    let mut i = 0usize;
-    while i < numbers.len() {
-        numbers[i] = float_from(words, a + i);
-        i += 1usize;
+    for (i, x) in numbers.iter_mut().enumerate() {
+        *x = float_from(words, a + i);
     }
 }
 
 // The settings of an add that has the roll influence last.
-pub fn rolled_from(words: &[u32]) -> Settings
-    requires { length words.now ≡ code.CODE-WORDS }
+#[tactic(auto, unfolding(crate::specs::Decode::rolled_from))]
+pub fn rolled_from(words: &[u32; CODE_WORDS]) -> Settings
     ensures { result ≡ rolled_from format words.now }
 {
     let mut numbers = [0.0; layout::SETTINGS];
@@ -53,8 +53,7 @@ pub fn rolled_from(words: &[u32]) -> Settings
 }
 
 // The settings of an add that has none: its roll influence is the source's.
-pub fn settings_from(words: &[u32]) -> Settings
-    requires { length words.now ≡ code.CODE-WORDS }
+pub fn settings_from(words: &[u32; CODE_WORDS]) -> Settings
     ensures { result ≡ settings_from format words.now }
 {
     let mut s = rolled_from(words);
@@ -63,15 +62,15 @@ pub fn settings_from(words: &[u32]) -> Settings
 }
 
 // The wheel that controls or a read names.
-pub fn wheel_from(words: &[u32]) -> u32
-    requires { length words.now ≡ code.CODE-WORDS }
+#[tactic(auto, unfolding(crate::specs::Decode::wheel_from, crate::specs::Decode::number_from))]
+pub fn wheel_from(words: &[u32; CODE_WORDS]) -> u32
     ensures { result ≡ wheel_from words.now }
 {
     words[WHEEL]
 }
 
-pub fn controls_from(words: &[u32]) -> Controls
-    requires { length words.now ≡ code.CODE-WORDS }
+#[tactic(auto, unfolding(crate::specs::Decode::controls_from))]
+pub fn controls_from(words: &[u32; CODE_WORDS]) -> Controls
     ensures { result ≡ controls_from format words.now }
 {
     let mut numbers = [0.0; layout::BY_ROTATION];
@@ -80,8 +79,8 @@ pub fn controls_from(words: &[u32]) -> Controls
 }
 
 // The controls of a code that has an angle in place of the rotation.
-pub fn controls_by_angle_from(words: &[u32]) -> Controls
-    requires { length words.now ≡ code.CODE-WORDS }
+#[tactic(auto, unfolding(crate::specs::Decode::controls_by_angle_from))]
+pub fn controls_by_angle_from(words: &[u32; CODE_WORDS]) -> Controls
     ensures { result ≡ controls_by_angle_from format words.now }
 {
     let mut numbers = [0.0; layout::BY_ANGLE];
@@ -90,8 +89,8 @@ pub fn controls_by_angle_from(words: &[u32]) -> Controls
 }
 
 // The chassis of an aim.
-pub fn chassis_from(words: &[u32]) -> Chassis
-    requires { length words.now ≡ code.CODE-WORDS }
+#[tactic(auto, unfolding(crate::specs::Decode::chassis_from))]
+pub fn chassis_from(words: &[u32; CODE_WORDS]) -> Chassis
     ensures { result ≡ chassis_from format words.now }
 {
     let mut numbers = [0.0; layout::KEPT];

@@ -11,11 +11,8 @@ fn write_numbers(words: &mut [u32], numbers: &[f32])
     requires { length words.old ≡ length numbers.now }
     ensures { words.new ≡ words_of format numbers.now }
 {
-    let mut i = 0usize;
-    while i < numbers.len() {
-        let x = numbers[i];
-        words[i] = bits::bits_of(x);
-        i += 1usize;
+    for (i, x) in numbers.iter().enumerate() {
+        words[i] = bits::bits_of(*x);
     }
 }
 
@@ -35,15 +32,9 @@ pub fn put_float(words: &mut [u32], a: usize, x: f32)
     put_numbers(words, a, &[x]);
 }
 
-fn flag_word(flag: bool) -> u32
-    ensures { result ≡ flag_word flag }
-{
-    if flag { 1 } else { 0 }
-}
-
 pub fn put_flag(words: &mut [u32], a: usize, flag: bool)
     requires { a < length words.old }
     ensures { words.new ≡ paste words.old a (flag_word flag ∷ []) }
 {
-    words[a] = flag_word(flag);
+    words[a] = u32::from(flag);
 }

@@ -1,6 +1,5 @@
 -- Laws on the program's windows, and what they come to: Windows.
 pub mod Started
 pub mod Running
-pub mod Shifting
 pub mod Windows
 pub mod Stepping

@@ -6,26 +6,22 @@ use mathlib.Core.Path.{◌≡◌, refl, sym, ap, ◌∙◌}
 use native.Mathlib.Omega.{arith}
 use borrow.Author.Tests.{lt-ltb, le-ltb}
 use lib.Dec.{eqb}
-use lib.Ieee.{Float, Format}
-use lib.ListN.{length, take, drop, length-drop}
+use lib.Ieee.{Format}
+use lib.ListN.{length, take, drop, length-append, length-drop}
 use lib.Seq.{take_all, drop-drop}
 use Rattle.lists.specs.Pick.{pick}
-use Rattle.table.specs.Layout as places
 use Rattle.stream.specs.declared.Code.{Code}
 use Rattle.grammar.specs.Layout as code
 use Rattle.stream.specs.Code.{shown, read_code}
 use Rattle.stream.proofs.Readings.{took_code}
 use Rattle.lines.specs.Layout.{line_bytes, LINE-BYTES}
-use Rattle.lists.specs.Puts.{Puts}
-use Rattle.lists.proofs.Puts.{paste_nil, puts_join}
 use Rattle.scenario.specs.Format.{format, widths_of, hex_digits_of}
 use Rattle.turns.specs.declared.Next.{Next}
-use Rattle.turns.specs.declared.Turn.{Turn}
 use Rattle.session.specs.declared.Stands.{Stands}
-use Rattle.turns.specs.Car.{Car, car, padded}
+use Rattle.perform.specs.declared.Car.{Car}
+use Rattle.turns.specs.Car.{padded}
 use Rattle.turns.specs.Turns.{following, called, malformed, turned_by, turn_of, Turns}
 use Rattle.session.specs.Runs.{Ran, ran, behind, ran_by, run_on, run_of, Runs}
-use Rattle.turns.proofs.Lent.{puts_within}
 
 -- ---- one code
 -- what follows is another code, n bytes on
@@ -70,103 +66,82 @@ behind_behind a b i j y =
     rw (append_assoc a b y.text, sum)
 
 -- ---- the loop
--- the text so far is put, and what is left to run gives what the whole gives
-pub record Running (last : Bool) (bytes : List ℕ) (t₀ : List Float) (m₀ before : List ℕ) (t : List Float) (m now : List ℕ) (taken at : ℕ) : Type 0 where
-  pub text : List ℕ
+-- the text so far is there, and what is left to run gives what the whole gives
+pub record Running (last : Bool) (bytes : List ℕ) (s₀ : Car) (room : ℕ) (c : Car) (text : List ℕ) (taken : ℕ) : Type 0 where
   pub k : ℕ
   pub within : taken ≤ length bytes
   pub left : length bytes - taken ≤ k
-  pub room : at ≤ length before
-  pub sized : length now ≡ length before
-  pub rows : length t ≡ places.SIZE
-  pub marks : length m ≡ places.WHOLE
-  pub puts : Puts before now 0 at text
-  pub same : run_of format last (car t₀ m₀) (length before) bytes ≡ behind text taken (run_on format last (suc k) (car t m) (length before - at) (drop taken bytes))
+  pub same : run_of format last s₀ room bytes ≡ behind text taken (run_on format last (suc k) c (room - length text) (drop taken bytes))
 
-pub none_run : (last : Bool) (bytes : List ℕ) (t : List Float) (m before : List ℕ) → length t ≡ places.SIZE → length m ≡ places.WHOLE → Running last bytes t m before t m before 0 0
+pub none_run : (last : Bool) (bytes : List ℕ) (s : Car) (room : ℕ) {text : List ℕ} → text ≡ [] → Running last bytes s room s text 0
 unfolding run_of
-none_run last bytes t m before p q =
-    let all : length before - 0 ≡ length before = omega arith in
+none_run last bytes s room e =
+    let all : room - 0 ≡ room = omega arith in
     let none : (n : ℕ) → 0 + n ≡ n = λ n. omega arith in
     record {
-      text = [];
       k = length bytes;
       within = omega arith;
       left = omega arith;
-      room = omega arith;
-      sized = refl;
-      rows = p;
-      marks = q;
-      puts = record { put = sym (paste_nil before 0); end = refl };
-      same = rw (all, none);
+      same = rw (e, all, none);
     }
 
-module _ {last : Bool} {bytes : List ℕ} {t₀ : List Float} {m₀ before : List ℕ} {t : List Float} {m now : List ℕ} {taken at : ℕ} (s : Running last bytes t₀ m₀ before t m now taken at) where
-  pub stands_full : length now - at < LINE-BYTES → Runs (run_of format last (car t₀ m₀) (length before) bytes) (record { taken = taken; at = at; stands = Stands.Full }) before now t m
+module _ {last : Bool} {bytes : List ℕ} {s₀ : Car} {room : ℕ} {c : Car} {text : List ℕ} {taken : ℕ} (s : Running last bytes s₀ room c text taken) where
+  pub stands_full : room - length text < LINE-BYTES → Runs (run_of format last s₀ room bytes) (record { taken = taken; stands = Stands.Full }) text c
   stands_full h =
-      let full = run_full format last s.k (car t m) (length before - at) (drop taken bytes) (omega (arith, s.sized)) in
+      let full = run_full format last s.k c (room - length text) (drop taken bytes) (omega arith) in
       let end : taken + 0 ≡ taken = omega arith in
-      rw (s.same, full, append-nil, end) (record { puts = s.puts; taken = refl; stands = refl; table = refl; whole = refl })
+      rw (s.same, full, append-nil, end) (record { text = refl; taken = refl; stands = refl; car = refl })
 
   -- a code was taken from the bytes that are left
-  module _ {r : Turn} {after : List ℕ} {t' : List Float} {m' : List ℕ} (h : LINE-BYTES ≤ length now - at) (kept : length after ≡ length now)
-      (p : Turns (turn_of format last (car t m) (take (length bytes - taken) (drop taken bytes))) r at now after t' m') where
-    taken_from : Turns (turn_of format last (car t m) (drop taken bytes)) r at now after t' m'
+  module _ {r : Next} {after : List ℕ} {c' : Car} (h : LINE-BYTES ≤ room - length text)
+      (p : Turns (turn_of format last c (take (length bytes - taken) (drop taken bytes))) r text after c') where
+    taken_from : Turns (turn_of format last c (drop taken bytes)) r text after c'
     taken_from =
         let whole : take (length bytes - taken) (drop taken bytes) ≡ drop taken bytes = take_all (length bytes - taken) (drop taken bytes) (rw length-drop (omega arith)) in
         rw whole at p
 
-    took_next : (n : ℕ) → r.next ≡ Next.On n → Took (drop taken bytes) n
-    took_next n e = turn_took format last (car t m) (drop taken bytes) n (sym taken_from.next ∙ e)
+    took_next : (n : ℕ) → r ≡ Next.On n → Took (drop taken bytes) n
+    took_next n e = turn_took format last c (drop taken bytes) n (sym taken_from.next ∙ e)
 
-    pub next_within : (n : ℕ) → r.next ≡ Next.On n → (0 < n) × (taken + n ≤ length bytes)
+    pub next_within : (n : ℕ) → r ≡ Next.On n → (0 < n) × (taken + n ≤ length bytes)
     next_within n e =
         let took = took_next n e in
         let long = length-drop taken bytes in
         (took.some, omega (arith, took.within, s.within))
 
-    run_next : (n : Next) → r.next ≡ n
-        → run_of format last (car t₀ m₀) (length before) bytes ≡ behind s.text taken (ran_by (run_on format last s.k) n (turn_of format last (car t m) (drop taken bytes)) (length before - at) (drop taken bytes))
-    run_next n e = s.same ∙ ap (behind s.text taken) (run_by format last s.k (car t m) (length before - at) (drop taken bytes) n (omega (arith, s.sized)) (sym taken_from.next ∙ e))
+    run_next : (n : Next) → r ≡ n
+        → run_of format last s₀ room bytes ≡ behind text taken (ran_by (run_on format last s.k) n (turn_of format last c (drop taken bytes)) (room - length text) (drop taken bytes))
+    run_next n e = s.same ∙ ap (behind text taken) (run_by format last s.k c (room - length text) (drop taken bytes) n (omega arith) (sym taken_from.next ∙ e))
 
-    puts_next : Puts before after 0 r.at (s.text ++ (turn_of format last (car t m) (drop taken bytes)).text)
-    puts_next = puts_join s.puts taken_from.puts (omega arith)
-
-    ends_with : (stands : Stands) → run_of format last (car t₀ m₀) (length before) bytes ≡ behind s.text taken (ran (turn_of format last (car t m) (drop taken bytes)).text (turn_of format last (car t m) (drop taken bytes)).car 0 stands)
-        → Runs (run_of format last (car t₀ m₀) (length before) bytes) (record { taken = taken; at = r.at; stands = stands }) before after t' m'
+    ends_with : (stands : Stands) → run_of format last s₀ room bytes ≡ behind text taken (ran (turn_of format last c (drop taken bytes)).text (turn_of format last c (drop taken bytes)).car 0 stands)
+        → Runs (run_of format last s₀ room bytes) (record { taken = taken; stands = stands }) after c'
     ends_with stands e =
         let end : taken + 0 ≡ taken = omega arith in
-        rw e (record { puts = puts_next; taken = sym end; stands = refl; table = taken_from.table; whole = taken_from.whole })
+        rw e (record { text = taken_from.text; taken = sym end; stands = refl; car = taken_from.car })
 
-    pub stands_ended : r.next ≡ Next.Ended → Runs (run_of format last (car t₀ m₀) (length before) bytes) (record { taken = taken; at = r.at; stands = Stands.Ended }) before after t' m'
+    pub stands_ended : r ≡ Next.Ended → Runs (run_of format last s₀ room bytes) (record { taken = taken; stands = Stands.Ended }) after c'
     unfolding ran_by
     stands_ended e = ends_with Stands.Ended (run_next Next.Ended e)
 
-    pub stands_more : r.next ≡ Next.More → Runs (run_of format last (car t₀ m₀) (length before) bytes) (record { taken = taken; at = r.at; stands = Stands.More }) before after t' m'
+    pub stands_more : r ≡ Next.More → Runs (run_of format last s₀ room bytes) (record { taken = taken; stands = Stands.More }) after c'
     unfolding ran_by
     stands_more e = ends_with Stands.More (run_next Next.More e)
 
-    pub one_run : (n : ℕ) → r.next ≡ Next.On n → length t' ≡ length t → length m' ≡ length m → Running last bytes t₀ m₀ before t' m' after (taken + n) r.at
+    pub one_run : (n : ℕ) → r ≡ Next.On n → Running last bytes s₀ room c' after (taken + n)
     unfolding ran_by
-    one_run n e rows marks =
-        let x = turn_of format last (car t m) (drop taken bytes) in
+    one_run n e =
+        let x = turn_of format last c (drop taken bytes) in
         let took = took_next n e in
         let long = length-drop taken bytes in
-        let reach = puts_within puts_next (kept ∙ s.sized) (omega arith) in
         let fuel : s.k ≡ suc (s.k - 1) = omega (arith, s.left, took.some, took.within) in
-        let rooms : length before - at - length x.text ≡ length before - r.at = omega (arith, taken_from.puts.end) in
-        let cars : x.car ≡ car t' m' = rw (taken_from.table, taken_from.whole) in
-        let on : run_of format last (car t₀ m₀) (length before) bytes ≡ behind (s.text ++ x.text) (taken + n) (run_on format last s.k x.car (length before - at - length x.text) (drop n (drop taken bytes))) =
-        run_next (Next.On n) e ∙ behind_behind s.text x.text taken n _ in
+        let rooms : room - length text - length x.text ≡ room - length (text ++ x.text) = rw length-append (omega arith) in
+        let cars : x.car ≡ c' = sym taken_from.car in
+        let texts : text ++ x.text ≡ after = sym taken_from.text in
+        let on : run_of format last s₀ room bytes ≡ behind (text ++ x.text) (taken + n) (run_on format last s.k x.car (room - length text - length x.text) (drop n (drop taken bytes))) =
+        run_next (Next.On n) e ∙ behind_behind text x.text taken n _ in
         record {
-          text = s.text ++ x.text;
           k = s.k - 1;
           within = omega (arith, took.within);
           left = omega (arith, s.left, took.some);
-          room = reach;
-          sized = kept ∙ s.sized;
-          rows = rows ∙ s.rows;
-          marks = marks ∙ s.marks;
-          puts = puts_next;
-          same = rw (fuel, rooms, cars, drop-drop) at on;
+          same = rw (fuel, rooms, cars, drop-drop, texts) at on;
         }

@@ -21,7 +21,8 @@ use Rattle.perform.specs.Call.{call_of}
 use Rattle.turns.specs.declared.Next.{Next}
 use Rattle.session.specs.declared.Stands.{Stands}
 use Rattle.session.specs.Layout.{TEXT-BYTES}
-use Rattle.turns.specs.Car.{Car, car, MALFORMED, padded}
+use Rattle.perform.specs.declared.Car.{Car}
+use Rattle.turns.specs.Car.{car, MALFORMED, padded}
 use Rattle.session.specs.Program.{start_car, printed_by, printed_on, printed_from, printed}
 use Rattle.turns.specs.Turns.{turned, following, called, malformed, turned_by, turn_of}
 use Rattle.session.specs.Runs.{Ran, ran, behind, ran_by, run_on, run_of, printed_after}

@@ -11,7 +11,8 @@ use Rattle.stream.specs.Code.{shown, read_code}
 use Rattle.lines.specs.Line.{line, title}
 use Rattle.scenario.specs.Format.{widths_of, hex_digits_of}
 use Rattle.perform.specs.Call.{call_of}
-use Rattle.turns.specs.Car.{Car, car, MALFORMED, padded}
+use Rattle.perform.specs.declared.Car.{Car}
+use Rattle.turns.specs.Car.{car, MALFORMED, padded}
 
 -- "The table starts set up with axes 1 and 0."
 unfoldable pub start_car : Car

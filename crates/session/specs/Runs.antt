@@ -1,5 +1,5 @@
 -- Document 01, "Scenario program": the codes of a window, one after another, while they are whole and a buffer has room for another line. Definitions only.
-use Rattle.std.specs.Prelude.{ℕ, zero, suc, ◌+◌, ◌-◌, ◌≤◌, Bool, List, [], ◌++◌, ◌≡◌, ltb, Float, length, drop}
+use Rattle.std.specs.Prelude.{ℕ, zero, suc, ◌+◌, ◌-◌, ◌≤◌, Bool, List, [], ◌++◌, ◌≡◌, ltb, length, drop}
 use Rattle.std.specs.Float.{Format}
 use Rattle.lists.specs.Pick.{pick}
 use Rattle.lists.specs.Puts.{Puts}
@@ -9,7 +9,7 @@ use Rattle.turns.specs.declared.Next.{Next}
 use Rattle.session.specs.declared.Stands.{Stands}
 use Rattle.session.specs.declared.Run.{Run}
 use Rattle.session.specs.declared.Step.{Step}
-use Rattle.turns.specs.Car.{Car}
+use Rattle.perform.specs.declared.Car.{Car}
 use Rattle.session.specs.Program.{printed_from}
 use Rattle.turns.specs.Turns.{Turned, turn_of}
 
@@ -43,13 +43,12 @@ run_on f last (suc k) s room bytes = pick (ltb room (line_bytes (hex_digits_of f
 unfoldable pub run_of : Format → Bool → Car → ℕ → List ℕ → Ran
 run_of f last s room bytes = run_on f last (suc (length bytes)) s room bytes
 
--- a run is made: its text is put, and the table and the whole numbers are the car's
-pub record Runs (x : Ran) (r : Run) (before after : List ℕ) (t : List Float) (m : List ℕ) : Type 0 where
-  pub puts : Puts before after 0 r.at x.text
+-- a run is made: the text and the car are as it leaves them
+pub record Runs (x : Ran) (r : Run) (printed : List ℕ) (c : Car) : Type 0 where
+  pub text : printed ≡ x.text
   pub taken : r.taken ≡ x.taken
   pub stands : r.stands ≡ x.stands
-  pub table : t ≡ x.car.table
-  pub whole : m ≡ x.car.whole
+  pub car : c ≡ x.car
 
 -- what is printed of a stream after a run over its first bytes, by how the run stands: nothing once the program has ended, and else what the bytes that are left tell
 unfoldable pub printed_after : Format → Stands → Car → List ℕ → List ℕ
@@ -59,11 +58,9 @@ printed_after f Stands.Full s bytes = printed_from f s bytes
 
 -- ---- a window that is kept for the next bytes
 -- a run is made over the bytes of a window, and those that are left are moved to its start
-pub record Steps (x : Ran) (bytes : List ℕ) (r : Step) (window window' before after : List ℕ) (t : List Float) (m : List ℕ) : Type 0 where
-  pub puts : Puts before after 0 r.at x.text
+pub record Steps (x : Ran) (bytes : List ℕ) (r : Step) (window window' printed : List ℕ) (c : Car) : Type 0 where
+  pub text : printed ≡ x.text
   pub stands : r.stands ≡ x.stands
   pub moves : Puts window window' 0 r.filled (drop x.taken bytes)
   pub window_fits : r.filled ≤ length window
-  pub text_fits : r.at ≤ length before
-  pub table : t ≡ x.car.table
-  pub whole : m ≡ x.car.whole
+  pub car : c ≡ x.car

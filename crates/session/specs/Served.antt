@@ -3,7 +3,7 @@ use Rattle.std.specs.Prelude.{ℕ, zero, suc, Bool, true, false, List, [], ◌�
 use Rattle.std.specs.Float.{Format}
 use Rattle.lines.specs.Line.{title}
 use Rattle.session.specs.declared.Stands.{Stands}
-use Rattle.turns.specs.Car.{Car}
+use Rattle.perform.specs.declared.Car.{Car}
 use Rattle.session.specs.Program.{start_car}
 use Rattle.session.specs.Runs.{Ran, run_of}
 

@@ -14,18 +14,16 @@ pub enum Stands {
     Full,
 }
 
-// A run of codes: how many bytes are done with, the place behind its text, and how it stands.
+// A run of codes: how many bytes are done with, and how it stands.
 #[derive(Clone, Copy)]
 pub struct Run {
     pub taken: usize,
-    pub at: usize,
     pub stands: Stands,
 }
 
-// A step of the program: how many bytes of the window are left, at its start; the place behind the text; and how it stands.
+// A step of the program: how many bytes of the window are left, at its start; and how it stands.
 #[derive(Clone, Copy)]
 pub struct Step {
     pub filled: usize,
-    pub at: usize,
     pub stands: Stands,
 }

@@ -2,12 +2,15 @@
 ghost use Rattle.session.specs.Start.{Starts};
 
 use super::layout::{FORWARD, TEXT_BYTES, UP};
-use table::layout::{SIZE, WHOLE};
+use lines::text::Text;
+use perform::Car;
 
-// Sets the table up, puts the first line, and answers the place behind it.
-pub fn start(table: &mut [f32; SIZE], whole: &mut [u32; WHOLE], out: &mut [u8; TEXT_BYTES]) -> usize
-    ensures { Starts result out.old out.new table.new whole.new }
+// Sets the car up; the text is the first line.
+pub fn start(car: &mut Car, text: &mut Text<TEXT_BYTES>)
+    ensures { Starts text.new car.new }
 {
-    set_up::set_up(table, whole, UP, FORWARD);
-    lines::put_title(out, 0)
+    // never refused: the sizes are the arrays', the axes two of the three
+    let _ = set_up::set_up(&mut car.table, &mut car.whole, UP, FORWARD);
+    text.clear();
+    text.put_title();
 }

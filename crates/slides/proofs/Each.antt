@@ -1,6 +1,7 @@
 -- Laws on a pass over a list, as a loop makes it: `up_to f i xs` is xs with f applied to its first i elements. In order: its length; a turn; the end. Assumes nothing.
-use mathlib.Core.Path.{◌≡◌, refl, ap}
-use Prim.Native.Nat.{ℕ, zero, suc, ◌≤◌}
+use mathlib.Core.Path.{◌≡◌, refl, sym, ap, ◌∙◌}
+use Prim.Native.Nat.{ℕ, zero, suc, ◌+◌, ◌≤◌}
+use native.Mathlib.Numerals.{add-one}
 use native.Mathlib.Nat.{not-suc-le-zero, le_of_suc-le-suc}
 use mathlib.Core.List.{List, [], ◌∷◌, map}
 use lib.ListN.{length, get_or, set}
@@ -22,6 +23,10 @@ module _ {A : Type 0} (f : A → A) where
   up_to_set zero (x ∷ xs) d = refl
   up_to_set (suc i) [] d = refl
   up_to_set (suc i) (x ∷ xs) d = ap {B = List A} (λ r. f x ∷ r) (up_to_set i xs d)
+
+  -- the same of lists by their equations, where element i becomes y
+  pub up_to_turn : (i : ℕ) (xs ys zs : List A) (d y : A) → ys ≡ up_to i xs → zs ≡ set ys i y → y ≡ f (get_or ys i d) → zs ≡ up_to (i + 1) xs
+  up_to_turn i xs ys zs d y e z q = rw (z, q, e) (up_to_set i xs d ∙ ap (λ (k : ℕ). up_to k xs) (sym (add-one i)))
 
   -- the end
   pub up_to_all : (i : ℕ) (xs : List A) → length xs ≤ i → up_to i xs ≡ map f xs

@@ -1,5 +1,5 @@
 // Document 01, "Scenario program": one code.
-ghost use Rattle.std.specs.Prelude.{◌≡◌, length, take};
+ghost use Rattle.std.specs.Prelude.{◌≡◌, take};
 ghost use Rattle.grammar.specs.Layout as layout;
 ghost use Rattle.stream.specs.Code as code;
 
@@ -9,16 +9,14 @@ use grammar::layout::CODE_WORDS;
 use numbers::Number;
 
 // The code that the first n words belong to, 0 where there are none.
-fn shown(words: &[u32], n: usize) -> u32
-    requires { length words.now ≡ layout.CODE-WORDS }
+fn shown(words: &[u32; CODE_WORDS], n: usize) -> u32
     ensures { result ≡ code.shown (take n words.now) }
 {
     if n > 0 { words[0] } else { 0 }
 }
 
 // What stands at the start of the bytes; its words go into the lent ones.
-fn read_words(bytes: &[u8], words: &mut [u32]) -> Code
-    requires { length words.old ≡ layout.CODE-WORDS }
+pub fn read_code(bytes: &[u8], words: &mut [u32; CODE_WORDS]) -> Code
     ensures { code.Reads layout.WIDTHS bytes.now words.old words.new result }
 {
     let mut place = grammar::fields::start();
@@ -44,11 +42,4 @@ fn read_words(bytes: &[u8], words: &mut [u32]) -> Code
         }
     };
     code
-}
-
-// The same, where the lent words are known to have room.
-pub fn read_code(bytes: &[u8], words: &mut [u32; CODE_WORDS]) -> Code
-    ensures { code.Reads layout.WIDTHS bytes.now words.old words.new result }
-{
-    read_words(bytes, words)
 }

@@ -1,8 +1,9 @@
 // How large a number may be: document 01, refusal 2.
-ghost use Rattle.std.specs.Prelude.{◌≡◌, ◌≤◌, length};
-ghost use Rattle.table.specs.Layout.{SIZE, WHEELS};
+ghost use Rattle.std.specs.Prelude.{◌≡◌, ◌≤◌};
+ghost use Rattle.table.specs.Layout.{WHEELS};
 ghost use Rattle.table.specs.Bounds.{all_within, stored_within};
 
+use super::layout::SIZE;
 use super::rows::row_start;
 
 // 2^20, for a number that is handed in.
@@ -16,19 +17,12 @@ pub const STORED: f32 = 1099511627776.0;
 pub fn all_within(most: f32, s: &[f32]) -> bool
     ensures { result ≡ all_within most s.now }
 {
-    let mut ok = true;
-    let mut i = 0usize;
-    while i < s.len() {
-        let x = s[i];
-        ok = ok & real::is_within(most, x);
-        i += 1usize;
-    }
-    ok
+    s.iter().fold(true, |ok, x| ok & real::is_within(most, *x))
 }
 
 // Whether the kept chassis and the first n rows hold numbers that may be stored.
-pub fn stored_within(table: &[f32], n: usize) -> bool
-    requires { (length table.now ≡ SIZE) × (n ≤ WHEELS) }
+pub fn stored_within(table: &[f32; SIZE], n: usize) -> bool
+    requires { n ≤ WHEELS }
     ensures { result ≡ stored_within table.now n }
 {
     let e = row_start(n);

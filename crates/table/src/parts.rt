@@ -1,11 +1,11 @@
 // The parts of a wheel as numbers and back: what stands in a list from a place on, the numbers in order, and a row with another part.
 ghost use Rattle.std.specs.Prelude.{◌≡◌, ◌+◌, ◌<◌, ◌≤◌, length};
 ghost use Rattle.wheel.specs.Parts.{with_info, with_place, with_settings, with_controls, with_approach, with_motion, with_fallbacks, with_force, with_friction, with_rotation, friction_in};
+ghost use Rattle.wheel.specs.declared.Wheel.{Wheel};
 ghost use Rattle.table.specs.Layout as at;
 ghost use Rattle.table.specs.Rows.{vector_at, rotation_at, inertia_at, info_at, info_list, place_at, place_list, tuning_at, settings_at, settings_list, steering_at, steering_list, controls_at, controls_list, by_rotation_at, by_angle_at, approach_at, approach_list, motion_at, motion_list, fallbacks_at, fallbacks_list, wheel_of, row_of};
 
 use super::layout::*;
-use super::rows::copy;
 use tyre::{Approach, Friction, WheelTuning};
 use vector::{Inertia, Rotation, Vector};
 use wheel::{
@@ -13,6 +13,7 @@ use wheel::{
     Steering, Wheel,
 };
 
+#[tactic(auto, unfolding(crate::specs::Rows::vector_at))]
 pub fn vector_at(l: &[f32], a: usize) -> Vector
     requires { a + 2 < length l.now }
     ensures { result ≡ vector_at l.now a }
@@ -24,6 +25,7 @@ pub fn vector_at(l: &[f32], a: usize) -> Vector
     }
 }
 
+#[tactic(auto, unfolding(crate::specs::Rows::rotation_at))]
 pub fn rotation_at(l: &[f32], a: usize) -> Rotation
     requires { a + 3 < length l.now }
     ensures { result ≡ rotation_at l.now a }
@@ -32,6 +34,7 @@ pub fn rotation_at(l: &[f32], a: usize) -> Rotation
     Rotation { b, w: l[a + 3] }
 }
 
+#[tactic(auto, unfolding(crate::specs::Rows::inertia_at))]
 pub fn inertia_at(l: &[f32], a: usize) -> Inertia
     requires { a + 5 < length l.now }
     ensures { result ≡ inertia_at l.now a }
@@ -47,6 +50,7 @@ pub fn inertia_at(l: &[f32], a: usize) -> Inertia
 }
 
 // ---- each part of a wheel from place a on
+#[tactic(auto, unfolding(crate::specs::Rows::info_at))]
 fn info_at(l: &[f32], a: usize) -> RayCastInfo
     requires { a + at.INFO ≤ length l.now }
     ensures { result ≡ info_at l.now a }
@@ -59,6 +63,7 @@ fn info_at(l: &[f32], a: usize) -> RayCastInfo
     }
 }
 
+#[tactic(auto, unfolding(crate::specs::Rows::place_at))]
 fn place_at(l: &[f32], a: usize) -> Place
     requires { a + at.PLACE ≤ length l.now }
     ensures { result ≡ place_at l.now a }
@@ -70,6 +75,7 @@ fn place_at(l: &[f32], a: usize) -> Place
     }
 }
 
+#[tactic(auto, unfolding(crate::specs::Rows::tuning_at))]
 fn tuning_at(l: &[f32], a: usize) -> WheelTuning
     requires { a + at.TUNING ≤ length l.now }
     ensures { result ≡ tuning_at l.now a }
@@ -85,6 +91,7 @@ fn tuning_at(l: &[f32], a: usize) -> WheelTuning
     }
 }
 
+#[tactic(auto, unfolding(crate::specs::Rows::settings_at))]
 pub fn settings_at(l: &[f32], a: usize) -> Settings
     requires { a + at.SETTINGS ≤ length l.now }
     ensures { result ≡ settings_at l.now a }
@@ -100,6 +107,7 @@ pub fn settings_at(l: &[f32], a: usize) -> Settings
     }
 }
 
+#[tactic(auto, unfolding(crate::specs::Rows::steering_at))]
 fn steering_at(l: &[f32], a: usize) -> KeptSteering
     requires { a + at.STEERING ≤ length l.now }
     ensures { result ≡ steering_at l.now a }
@@ -111,6 +119,7 @@ fn steering_at(l: &[f32], a: usize) -> KeptSteering
     }
 }
 
+#[tactic(auto, unfolding(crate::specs::Rows::controls_at))]
 fn controls_at(l: &[f32], a: usize) -> KeptControls
     requires { a + at.CONTROLS ≤ length l.now }
     ensures { result ≡ controls_at l.now a }
@@ -123,6 +132,7 @@ fn controls_at(l: &[f32], a: usize) -> KeptControls
 }
 
 // ---- controls as they are handed in, with a rotation or with an angle
+#[tactic(auto, unfolding(crate::specs::Rows::by_rotation_at))]
 pub fn by_rotation_at(l: &[f32], a: usize) -> Controls
     requires { a + at.BY-ROTATION ≤ length l.now }
     ensures { result ≡ by_rotation_at l.now a }
@@ -135,6 +145,7 @@ pub fn by_rotation_at(l: &[f32], a: usize) -> Controls
     }
 }
 
+#[tactic(auto, unfolding(crate::specs::Rows::by_angle_at))]
 pub fn by_angle_at(l: &[f32], a: usize) -> Controls
     requires { a + at.BY-ANGLE ≤ length l.now }
     ensures { result ≡ by_angle_at l.now a }
@@ -147,6 +158,7 @@ pub fn by_angle_at(l: &[f32], a: usize) -> Controls
     }
 }
 
+#[tactic(auto, unfolding(crate::specs::Rows::approach_at))]
 fn approach_at(l: &[f32], a: usize) -> Approach
     requires { a + at.APPROACH ≤ length l.now }
     ensures { result ≡ approach_at l.now a }
@@ -157,6 +169,7 @@ fn approach_at(l: &[f32], a: usize) -> Approach
     }
 }
 
+#[tactic(auto, unfolding(crate::specs::Rows::motion_at))]
 fn motion_at(l: &[f32], a: usize) -> Motion
     requires { a + at.MOTION ≤ length l.now }
     ensures { result ≡ motion_at l.now a }
@@ -171,6 +184,7 @@ fn motion_at(l: &[f32], a: usize) -> Motion
     }
 }
 
+#[tactic(auto, unfolding(crate::specs::Rows::fallbacks_at))]
 fn fallbacks_at(l: &[f32], a: usize) -> Fallbacks
     requires { a + at.FALLBACKS ≤ length l.now }
     ensures { result ≡ fallbacks_at l.now a }
@@ -182,6 +196,7 @@ fn fallbacks_at(l: &[f32], a: usize) -> Fallbacks
 }
 
 // A row as a wheel.
+#[tactic(auto, unfolding(crate::specs::Rows::wheel_of))]
 pub fn read_row(row: &[f32]) -> Wheel
     requires { length row.now ≡ at.ROW }
     ensures { result ≡ wheel_of row.now }
@@ -198,6 +213,7 @@ pub fn read_row(row: &[f32]) -> Wheel
 }
 
 // The impulses and the skid of a row.
+#[tactic(auto, unfolding(crate::specs::Rows::wheel_of, crate::specs::Rows::motion_at))]
 pub fn read_friction(row: &[f32]) -> Friction
     requires { length row.now ≡ at.ROW }
     ensures { result ≡ friction_in (wheel_of row.now) }
@@ -289,116 +305,134 @@ fn fallbacks_numbers(b: Fallbacks) -> [f32; FALLBACKS]
     [b.axis, b.forward]
 }
 
-// ---- the row with another part
-fn write_info(row: &mut [f32], i: RayCastInfo)
-    requires { length row.old ≡ at.ROW }
-    ensures { row.new ≡ row_of (with_info (wheel_of row.old) i) }
-{
-    let numbers = info_numbers(i);
-    copy(&mut row[INFO_AT..PLACE_AT], &numbers);
+// What can be written over the row of a wheel: a part, or some of its numbers. A row is a slice, since document 01 hands `&mut table[a..b]` for one
+// wheel to the function that writes it.
+pub trait Part {
+    // the wheel with it
+    ghost with: { Self → Wheel → Wheel };
+
+    fn write(self, row: &mut [f32])
+        requires { length row.old ≡ at.ROW }
+        ensures { row.new ≡ row_of (with self (wheel_of row.old)) };
 }
 
-fn write_place(row: &mut [f32], p: Place)
-    requires { length row.old ≡ at.ROW }
-    ensures { row.new ≡ row_of (with_place (wheel_of row.old) p) }
-{
-    let numbers = place_numbers(p);
-    copy(&mut row[PLACE_AT..SETTINGS_AT], &numbers);
+impl Part for RayCastInfo {
+    ghost with = { λ x w. with_info w x };
+
+    fn write(self, row: &mut [f32]) {
+        row[INFO_AT..PLACE_AT].copy_from_slice(&info_numbers(self));
+    }
 }
 
-fn write_settings(row: &mut [f32], s: Settings)
-    requires { length row.old ≡ at.ROW }
-    ensures { row.new ≡ row_of (with_settings (wheel_of row.old) s) }
-{
-    let numbers = settings_numbers(s);
-    copy(&mut row[SETTINGS_AT..CONTROLS_AT], &numbers);
+impl Part for Place {
+    ghost with = { λ x w. with_place w x };
+
+    fn write(self, row: &mut [f32]) {
+        row[PLACE_AT..SETTINGS_AT].copy_from_slice(&place_numbers(self));
+    }
 }
 
-pub fn write_controls(row: &mut [f32], c: KeptControls)
-    requires { length row.old ≡ at.ROW }
-    ensures { row.new ≡ row_of (with_controls (wheel_of row.old) c) }
-{
-    let numbers = controls_numbers(c);
-    copy(&mut row[CONTROLS_AT..APPROACH_AT], &numbers);
+impl Part for Settings {
+    ghost with = { λ x w. with_settings w x };
+
+    fn write(self, row: &mut [f32]) {
+        row[SETTINGS_AT..CONTROLS_AT].copy_from_slice(&settings_numbers(self));
+    }
 }
 
-fn write_approach(row: &mut [f32], a: Approach)
-    requires { length row.old ≡ at.ROW }
-    ensures { row.new ≡ row_of (with_approach (wheel_of row.old) a) }
-{
-    let numbers = approach_numbers(a);
-    copy(&mut row[APPROACH_AT..MOTION_AT], &numbers);
+impl Part for KeptControls {
+    ghost with = { λ x w. with_controls w x };
+
+    fn write(self, row: &mut [f32]) {
+        row[CONTROLS_AT..APPROACH_AT].copy_from_slice(&controls_numbers(self));
+    }
 }
 
-fn write_motion(row: &mut [f32], m: Motion)
-    requires { length row.old ≡ at.ROW }
-    ensures { row.new ≡ row_of (with_motion (wheel_of row.old) m) }
-{
-    let numbers = motion_numbers(m);
-    copy(&mut row[MOTION_AT..FALLBACKS_AT], &numbers);
+impl Part for Approach {
+    ghost with = { λ x w. with_approach w x };
+
+    fn write(self, row: &mut [f32]) {
+        row[APPROACH_AT..MOTION_AT].copy_from_slice(&approach_numbers(self));
+    }
 }
 
-fn write_fallbacks(row: &mut [f32], b: Fallbacks)
-    requires { length row.old ≡ at.ROW }
-    ensures { row.new ≡ row_of (with_fallbacks (wheel_of row.old) b) }
-{
-    let numbers = fallbacks_numbers(b);
-    copy(&mut row[FALLBACKS_AT..ROW], &numbers);
+impl Part for Motion {
+    ghost with = { λ x w. with_motion w x };
+
+    fn write(self, row: &mut [f32]) {
+        row[MOTION_AT..FALLBACKS_AT].copy_from_slice(&motion_numbers(self));
+    }
 }
 
-// The row with another contact: what a cast changes.
-pub fn write_contact(row: &mut [f32], i: RayCastInfo, a: Approach)
-    requires { length row.old ≡ at.ROW }
-    ensures { row.new ≡ row_of (with_approach (with_info (wheel_of row.old) i) a) }
-{
-    write_info(row, i);
-    write_approach(row, a);
+impl Part for Fallbacks {
+    ghost with = { λ x w. with_fallbacks w x };
+
+    fn write(self, row: &mut [f32]) {
+        row[FALLBACKS_AT..ROW].copy_from_slice(&fallbacks_numbers(self));
+    }
 }
 
-// A wheel over a row.
-pub fn write_row(row: &mut [f32], w: Wheel)
-    requires { length row.old ≡ at.ROW }
-    ensures { row.new ≡ row_of w }
-{
-    write_info(row, w.info);
-    write_place(row, w.place);
-    write_settings(row, w.settings);
-    write_controls(row, w.controls);
-    write_approach(row, w.approach);
-    write_motion(row, w.motion);
-    write_fallbacks(row, w.fallbacks);
+// The impulses and the skid.
+impl Part for Friction {
+    ghost with = { λ d w. with_friction w d };
+
+    fn write(self, row: &mut [f32]) {
+        row[MOTION_AT + FORWARD_IMPULSE] = self.forward;
+        row[MOTION_AT + SIDE_IMPULSE] = self.side;
+        row[MOTION_AT + SKID] = self.skid;
+    }
 }
 
-// ---- the row with other numbers of the motion: the suspension's force; the impulses and the skid; the rotation and the spin
-pub fn write_force(row: &mut [f32], force: f32)
-    requires { length row.old ≡ at.ROW }
-    ensures { row.new ≡ row_of (with_force (wheel_of row.old) force) }
-{
-    row[MOTION_AT + FORCE] = force;
+// The force of the suspension.
+#[derive(Clone, Copy)]
+pub struct Force(pub f32);
+
+impl Part for Force {
+    ghost with = { λ f w. with_force w f.0 };
+
+    fn write(self, row: &mut [f32]) {
+        row[MOTION_AT + FORCE] = self.0;
+    }
 }
 
-pub fn write_friction(row: &mut [f32], d: Friction)
-    requires { length row.old ≡ at.ROW }
-    ensures { row.new ≡ row_of (with_friction (wheel_of row.old) d) }
-{
-    row[MOTION_AT + FORWARD_IMPULSE] = d.forward;
-    row[MOTION_AT + SIDE_IMPULSE] = d.side;
-    row[MOTION_AT + SKID] = d.skid;
+// The rotation and the spin.
+#[derive(Clone, Copy)]
+pub struct Spinning {
+    pub rotation: f32,
+    pub spin: f32,
 }
 
-// The row with other impulses and skid, and other answers on its directions: what rule 7 changes.
-pub fn write_demand(row: &mut [f32], d: Friction, b: Fallbacks)
-    requires { length row.old ≡ at.ROW }
-    ensures { row.new ≡ row_of (with_fallbacks (with_friction (wheel_of row.old) d) b) }
-{
-    write_friction(row, d);
-    write_fallbacks(row, b);
+impl Part for Spinning {
+    ghost with = { λ t w. with_rotation w t.rotation t.spin };
+
+    fn write(self, row: &mut [f32]) {
+        row[MOTION_AT + ROTATION] = self.rotation;
+        row[MOTION_AT + SPIN] = self.spin;
+    }
 }
 
-pub fn write_rotation(row: &mut [f32], rotation: f32, spin: f32)
-    requires { length row.old ≡ at.ROW }
-    ensures { row.new ≡ row_of (with_rotation (wheel_of row.old) rotation spin) }
-{
-    row[MOTION_AT + ROTATION] = rotation;
-    row[MOTION_AT + SPIN] = spin;
+// One after the other.
+impl<A: Part, B: Part> Part for (A, B) {
+    ghost with = { λ p w. B.with p.1 (A.with p.0 w) };
+
+    fn write(self, row: &mut [f32]) {
+        let (a, b) = self;
+        a.write(row);
+        b.write(row);
+    }
+}
+
+// A whole wheel.
+impl Part for Wheel {
+    ghost with = { λ x w. x };
+
+    fn write(self, row: &mut [f32]) {
+        self.info.write(row);
+        self.place.write(row);
+        self.settings.write(row);
+        self.controls.write(row);
+        self.approach.write(row);
+        self.motion.write(row);
+        self.fallbacks.write(row);
+    }
 }

@@ -2,12 +2,9 @@
 use Rattle.std.specs.Prelude.{ℕ, List, Float, replicate}
 use Rattle.lists.specs.Part.{paste}
 use Rattle.grammar.specs.Layout as code
+use Rattle.perform.specs.declared.Car.{Car}
 
--- what the program keeps: the table and the whole numbers
-pub record Car : Type 0 where
-  pub table : List Float
-  pub whole : List ℕ
-
+-- a table and whole numbers
 abbrev pub car : List Float → List ℕ → Car
 car t m = record { table = t; whole = m }
 

@@ -1,8 +1,7 @@
 -- Document 01, "Scenario program": one code, taken from the bytes that are there. "A code is read whole before its call." Definitions only.
-use Rattle.std.specs.Prelude.{ℕ, Bool, List, [], ◌≡◌, eqb, Float}
+use Rattle.std.specs.Prelude.{ℕ, Bool, List, [], ◌++◌, ◌≡◌, eqb}
 use Rattle.std.specs.Float.{Format}
 use Rattle.lists.specs.Pick.{pick}
-use Rattle.lists.specs.Puts.{Puts}
 use Rattle.stream.specs.declared.Code.{Code}
 use Rattle.grammar.specs.Layout as code
 use Rattle.stream.specs.Code.{shown, read_code}
@@ -10,8 +9,8 @@ use Rattle.lines.specs.Line.{line}
 use Rattle.scenario.specs.Format.{widths_of, hex_digits_of}
 use Rattle.perform.specs.Call.{call_of}
 use Rattle.turns.specs.declared.Next.{Next}
-use Rattle.turns.specs.declared.Turn.{Turn}
-use Rattle.turns.specs.Car.{Car, car, MALFORMED, padded}
+use Rattle.perform.specs.declared.Car.{Car}
+use Rattle.turns.specs.Car.{car, MALFORMED, padded}
 
 -- what a code makes: what is printed, the car afterwards, and what follows
 pub record Turned : Type 0 where
@@ -45,9 +44,8 @@ turned_by f last (Code.Malformed c) l s = malformed f c s
 unfoldable pub turn_of : Format → Bool → Car → List ℕ → Turned
 turn_of f last s bytes = turned_by f last (read_code (widths_of f) bytes).code (read_code (widths_of f) bytes).words s
 
--- a code is taken: its text is put, and the table and the whole numbers are the car's
-pub record Turns (x : Turned) (r : Turn) (at : ℕ) (before after : List ℕ) (t : List Float) (m : List ℕ) : Type 0 where
-  pub puts : Puts before after at r.at x.text
-  pub next : r.next ≡ x.next
-  pub table : t ≡ x.car.table
-  pub whole : m ≡ x.car.whole
+-- a code is taken: its text is put behind the text before, and the car is as it leaves it
+pub record Turns (x : Turned) (r : Next) (before after : List ℕ) (c : Car) : Type 0 where
+  pub text : after ≡ before ++ x.text
+  pub next : r ≡ x.next
+  pub car : c ≡ x.car

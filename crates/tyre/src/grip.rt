@@ -6,6 +6,7 @@ ghost use Rattle.tyre.specs.Grip.{load_of, skid_of, with_skid, airborne, braked_
 use super::Friction;
 
 // The left side of the slide test.
+#[tactic(auto, using(real::proofs::Literals::half_is), unfolding(crate::specs::Grip::load_of))]
 fn load_of(forward: f32, side: f32) -> f32
     ensures { result ≡ load_of binary32 forward side }
 {
@@ -14,6 +15,7 @@ fn load_of(forward: f32, side: f32) -> f32
 }
 
 // The skid: how much of the demand the limit allows, 1 where the tyre does not slide.
+#[tactic(auto, unfolding(crate::specs::Grip::skid_of, crate::specs::Grip::slides))]
 fn skid_of(forward: f32, side: f32, limit: f32) -> f32
     ensures { result ≡ skid_of binary32 forward side limit }
 {
@@ -26,6 +28,7 @@ fn skid_of(forward: f32, side: f32, limit: f32) -> f32
 }
 
 // A demand with the skid that the limit gives it.
+#[tactic(auto, unfolding(crate::specs::Grip::with_skid))]
 pub fn with_skid(forward: f32, side: f32, limit: f32) -> Friction
     ensures { result ≡ with_skid binary32 forward side limit }
 {
@@ -48,6 +51,7 @@ pub fn airborne() -> Friction
 }
 
 // The brake's clamp: no more than the brake, either way.
+#[tactic(auto, unfolding(crate::specs::Grip::braked_of))]
 pub fn braked_of(brake: f32, x: f32) -> f32
     ensures { result ≡ braked_of brake x }
 {
@@ -55,6 +59,7 @@ pub fn braked_of(brake: f32, x: f32) -> f32
 }
 
 // The grip limit, from the uncut force.
+#[tactic(auto, unfolding(crate::specs::Grip::limit_of))]
 pub fn limit_of(force: f32, dt: f32, slip: f32) -> f32
     ensures { result ≡ limit_of binary32 force dt slip }
 {

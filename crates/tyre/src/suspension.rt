@@ -6,6 +6,7 @@ ghost use Rattle.tyre.specs.Suspension.{suspension_length, approach_of, damping_
 use super::{Approach, WheelTuning};
 
 // Rule 4: the suspension's length after a hit at `time`.
+#[tactic(auto, unfolding(crate::specs::Suspension::suspension_length))]
 pub fn suspension_length(rest: f32, travel: f32, radius: f32, time: f32) -> f32
     ensures { result ≡ suspension_length binary32 rest travel radius time }
 {
@@ -17,6 +18,7 @@ pub fn suspension_length(rest: f32, travel: f32, radius: f32, time: f32) -> f32
 }
 
 // Rule 4: the clipped inverse and the relative velocity, from normal dot direction and normal dot contact velocity.
+#[tactic(auto, using(real::proofs::Literals::tenth_is, real::proofs::Literals::zero_is, real::proofs::Literals::one_is), unfolding(crate::specs::Suspension::approach_of))]
 pub fn approach_of(facing: f32, speed: f32) -> Approach
     ensures { result ≡ approach_of binary32 facing speed }
 {
@@ -35,6 +37,7 @@ pub fn approach_of(facing: f32, speed: f32) -> Approach
 }
 
 // Rule 6: the damping that counts at a relative velocity.
+#[tactic(auto, unfolding(crate::specs::Suspension::damping_of))]
 fn damping_of(tuning: WheelTuning, velocity: f32) -> f32
     ensures { result ≡ damping_of tuning velocity }
 {
@@ -46,6 +49,7 @@ fn damping_of(tuning: WheelTuning, velocity: f32) -> f32
 }
 
 // Rule 6: the suspension's force in contact, before it is cut.
+#[tactic(auto, unfolding(crate::specs::Suspension::suspension_force))]
 pub fn suspension_force(
     tuning: WheelTuning,
     rest: f32,
@@ -61,6 +65,7 @@ pub fn suspension_force(
 }
 
 // Rule 6: the force cut to the maximum, for the impulse alone.
+#[tactic(auto, unfolding(crate::specs::Suspension::cut_of))]
 pub fn cut_of(force: f32, most: f32) -> f32
     ensures { result ≡ cut_of force most }
 {

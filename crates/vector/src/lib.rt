@@ -1,9 +1,8 @@
 // Vectors, rotations, poses and inverse inertia over f32: document 01's "Vector arithmetic", operation for operation.
 #![tactic(auto)]
 
-ghost use Rattle.std.specs.Prelude.{◌≡◌, cond, eqb};
+ghost use Rattle.std.specs.Prelude.{◌≡◌};
 ghost use Rattle.std.specs.Float.{binary32};
-ghost use Rattle.real.specs.Number.{zero, one};
 ghost use Rattle.vector.specs.Arithmetic.{zero_v, add_v, sub_v, neg_v, scale_v, parts_v, dot_v, cross_v, length_v, normalize_or_zero, rotate_v, transform_point, rows_of, row_dot, rows_dot, inertia_dot, ith};
 
 #[derive(Clone, Copy)]
@@ -13,7 +12,8 @@ pub struct Vector {
     pub z: f32,
 }
 
-// What normalising gives: the vector at length 1, or zero where it fell back to that.
+// What normalising gives: the vector at length 1, or zero where it fell back to that. No `Option`: document 01's answer is a vector, which
+// all uses but three take as it is.
 #[derive(Clone, Copy)]
 pub struct Normalized {
     pub vector: Vector,
@@ -45,6 +45,7 @@ pub struct Inertia {
 }
 
 // The zero vector.
+#[tactic(auto, unfolding(crate::specs::Arithmetic::zero_v))]
 pub fn zero() -> Vector
     ensures { result ≡ zero_v }
 {
@@ -56,6 +57,7 @@ pub fn zero() -> Vector
 }
 
 // The sum, part by part.
+#[tactic(auto, unfolding(crate::specs::Arithmetic::add_v))]
 pub fn add(a: Vector, b: Vector) -> Vector
     ensures { result ≡ add_v binary32 a b }
 {
@@ -67,6 +69,7 @@ pub fn add(a: Vector, b: Vector) -> Vector
 }
 
 // a less b, part by part.
+#[tactic(auto, unfolding(crate::specs::Arithmetic::sub_v))]
 pub fn sub(a: Vector, b: Vector) -> Vector
     ensures { result ≡ sub_v binary32 a b }
 {
@@ -78,6 +81,7 @@ pub fn sub(a: Vector, b: Vector) -> Vector
 }
 
 // The vector turned round, part by part.
+#[tactic(auto, unfolding(crate::specs::Arithmetic::neg_v))]
 pub fn neg(a: Vector) -> Vector
     ensures { result ≡ neg_v a }
 {
@@ -89,6 +93,7 @@ pub fn neg(a: Vector) -> Vector
 }
 
 // The vector times a number, part by part.
+#[tactic(auto, unfolding(crate::specs::Arithmetic::scale_v))]
 pub fn scale(a: Vector, s: f32) -> Vector
     ensures { result ≡ scale_v binary32 a s }
 {
@@ -100,6 +105,7 @@ pub fn scale(a: Vector, s: f32) -> Vector
 }
 
 // The product part by part.
+#[tactic(auto, unfolding(crate::specs::Arithmetic::parts_v))]
 pub fn parts(a: Vector, b: Vector) -> Vector
     ensures { result ≡ parts_v binary32 a b }
 {
@@ -111,6 +117,7 @@ pub fn parts(a: Vector, b: Vector) -> Vector
 }
 
 // The dot product, (x·x' + y·y') + z·z'.
+#[tactic(auto, unfolding(crate::specs::Arithmetic::dot_v))]
 pub fn dot(a: Vector, b: Vector) -> f32
     ensures { result ≡ dot_v binary32 a b }
 {
@@ -118,6 +125,7 @@ pub fn dot(a: Vector, b: Vector) -> f32
 }
 
 // The cross product, whose first part is y·z' - z·y', the rest cyclic.
+#[tactic(auto, unfolding(crate::specs::Arithmetic::cross_v))]
 pub fn cross(a: Vector, b: Vector) -> Vector
     ensures { result ≡ cross_v binary32 a b }
 {
@@ -129,6 +137,7 @@ pub fn cross(a: Vector, b: Vector) -> Vector
 }
 
 // The length: the root of the dot with itself.
+#[tactic(auto, unfolding(crate::specs::Arithmetic::length_v))]
 pub fn length(a: Vector) -> f32
     ensures { result ≡ length_v binary32 a }
 {
@@ -136,6 +145,7 @@ pub fn length(a: Vector) -> f32
 }
 
 // The vector at length 1; zero where the reciprocal of its length is not finite and above 0, and whether that is so.
+#[tactic(auto, unfolding(crate::specs::Arithmetic::normalize_or_zero))]
 pub fn normalize_or_zero(v: Vector) -> Normalized
     ensures { result ≡ normalize_or_zero binary32 v }
 {
@@ -154,6 +164,7 @@ pub fn normalize_or_zero(v: Vector) -> Normalized
 }
 
 // The vector v rotated by q.
+#[tactic(auto, using(real::proofs::Literals::two_is), unfolding(crate::specs::Arithmetic::rotate_v))]
 pub fn rotate(q: Rotation, v: Vector) -> Vector
     ensures { result ≡ rotate_v binary32 q v }
 {
@@ -165,6 +176,7 @@ pub fn rotate(q: Rotation, v: Vector) -> Vector
 }
 
 // A point under a pose: rotated, then moved.
+#[tactic(auto, unfolding(crate::specs::Arithmetic::transform_point))]
 pub fn transform_point(p: Pose, v: Vector) -> Vector
     ensures { result ≡ transform_point binary32 p v }
 {
@@ -172,6 +184,7 @@ pub fn transform_point(p: Pose, v: Vector) -> Vector
 }
 
 // The symmetric three by three array of an inverse inertia, row by row.
+#[tactic(auto, unfolding(crate::specs::Arithmetic::rows_of))]
 fn rows(i: Inertia) -> [[f32; 3]; 3]
     ensures { result ≡ rows_of i }
 {
@@ -179,6 +192,7 @@ fn rows(i: Inertia) -> [[f32; 3]; 3]
 }
 
 // The dot of one row and a vector.
+#[tactic(auto, unfolding(crate::specs::Arithmetic::row_dot))]
 fn row_dot(row: [f32; 3], v: Vector) -> f32
     ensures { result ≡ row_dot binary32 row v }
 {
@@ -193,6 +207,7 @@ fn row_dot(row: [f32; 3], v: Vector) -> f32
 }
 
 // The product of an array of rows and a vector: three row dots.
+#[tactic(auto, unfolding(crate::specs::Arithmetic::rows_dot))]
 fn rows_dot(m: [[f32; 3]; 3], v: Vector) -> Vector
     ensures { result ≡ rows_dot binary32 m v }
 {
@@ -204,6 +219,7 @@ fn rows_dot(m: [[f32; 3]; 3], v: Vector) -> Vector
 }
 
 // The product of an inverse inertia and a vector.
+#[tactic(auto, unfolding(crate::specs::Arithmetic::inertia_dot))]
 pub fn inertia_dot(i: Inertia, v: Vector) -> Vector
     ensures { result ≡ inertia_dot binary32 i v }
 {
@@ -211,20 +227,14 @@ pub fn inertia_dot(i: Inertia, v: Vector) -> Vector
     rows_dot(m, v)
 }
 
-// 1 where a part of an axis stands, else 0.
-fn part_at(i: u32, at: u32) -> f32
-    ensures { result ≡ cond (eqb i at) one zero }
-{
-    if i == at { 1.0 } else { 0.0 }
-}
-
 // The axis of number i: 0 x, 1 y, 2 z, and above that none.
+#[tactic(auto, unfolding(crate::specs::Arithmetic::ith, real::specs::Scalar::flag_number))]
 pub fn ith(i: u32) -> Vector
     ensures { result ≡ ith i }
 {
     Vector {
-        x: part_at(i, 0),
-        y: part_at(i, 1),
-        z: part_at(i, 2),
+        x: real::flag_number(i == 0),
+        y: real::flag_number(i == 1),
+        z: real::flag_number(i == 2),
     }
 }

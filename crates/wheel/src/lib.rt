@@ -2,7 +2,6 @@
 // table is read into a `Wheel`, and written from one.
 #![tactic(auto)]
 
-use body::GroundBody;
 use tyre::{Approach, WheelTuning};
 use vector::{Normalized, Rotation, Vector};
 
@@ -110,13 +109,6 @@ pub enum RayAnswer {
     Nothing,
     Hit(f32, Vector, u32),
     HitUp(f32, Vector, Vector, u32),
-}
-
-// The body under a wheel, by value.
-#[derive(Clone, Copy)]
-pub enum Ground {
-    Nothing,
-    On(GroundBody),
 }
 
 // A wheel's axis on the contact plane, and its rolling direction there, each with whether it fell back to zero.

@@ -3,12 +3,13 @@ ghost use Rattle.std.specs.Prelude.{◌≡◌};
 ghost use Rattle.std.specs.Float.{binary32};
 ghost use Rattle.wheel.specs.Ray.{centre_of, settled_centre, update_wheel_transform, ray_of, is_zero, upward_normal, is_undefined, contact_normal, hit_of, miss_of, ray_cast, is_grounded, named_of};
 
-use super::{Place, RayAnswer, RayCastInfo, Wheel, steer};
+use super::{Place, RayAnswer, RayCastInfo, Steering, Wheel, steer};
 use body::Body;
 use tyre::{Approach, WheelTuning, suspension};
 use vector::{Pose, Vector};
 
 // Rule 1: the centre of a wheel at this length from its hard point.
+#[tactic(auto, unfolding(crate::specs::Ray::centre_of))]
 fn centre_of(hard: Vector, direction: Vector, length: f32) -> Vector
     ensures { result ≡ centre_of binary32 hard direction length }
 {
@@ -16,6 +17,7 @@ fn centre_of(hard: Vector, direction: Vector, length: f32) -> Vector
 }
 
 // Change request 2026-02: where the tyre of a driven wheel is drawn, at this drive's length.
+#[tactic(auto, unfolding(crate::specs::Ray::settled_centre))]
 pub fn settled_centre(w: Wheel) -> Vector
     ensures { result ≡ settled_centre binary32 w }
 {
@@ -23,43 +25,44 @@ pub fn settled_centre(w: Wheel) -> Vector
 }
 
 // Rule 1: the wheel under the chassis' pose. The centre still has the length of the drive before.
+#[tactic(auto, unfolding(crate::specs::Ray::update_wheel_transform))]
 pub fn update_wheel_transform(pose: Pose, w: Wheel) -> Wheel
     ensures { result ≡ update_wheel_transform binary32 pose w }
 {
-    let s = w.settings;
-    let c = w.controls;
     let q = pose.rotation;
-    let mut info = w.info;
-    info.hard = vector::transform_point(pose, s.connection);
-    let direction = vector::rotate(q, s.direction);
-    let steered = steer::steering_rotation(direction, steer::steering_of(c.steering));
-    let axle = vector::rotate(steered, vector::rotate(q, s.axle));
-    let centre = centre_of(info.hard, direction, info.length);
-    let place = Place {
-        centre,
-        direction,
-        axle,
-    };
-    let mut r = w;
-    r.info = info;
-    r.place = place;
-    r
+    let hard = vector::transform_point(pose, w.settings.connection);
+    let direction = vector::rotate(q, w.settings.direction);
+    let steered = steer::steering_rotation(direction, Steering::from(w.controls.steering));
+    let axle = vector::rotate(steered, vector::rotate(q, w.settings.axle));
+    let centre = centre_of(hard, direction, w.info.length);
+    Wheel {
+        info: RayCastInfo { hard, ..w.info },
+        place: Place {
+            centre,
+            direction,
+            axle,
+        },
+        ..w
+    }
 }
 
 // Rule 3: the ray, from the hard point.
+#[tactic(auto, unfolding(crate::specs::Ray::ray_of))]
 pub fn ray_of(w: Wheel) -> Vector
     ensures { result ≡ ray_of binary32 w }
 {
     vector::scale(w.place.direction, w.settings.rest + w.settings.radius)
 }
 
+#[tactic(auto, unfolding(crate::specs::Ray::is_zero))]
 fn is_zero(v: Vector) -> bool
     ensures { result ≡ is_zero v }
 {
-    v.x == 0.0 && (v.y == 0.0 && v.z == 0.0)
+    v.x == 0.0 && v.y == 0.0 && v.z == 0.0
 }
 
 // Rule 3: a hit at time 0 takes minus the upward normal.
+#[tactic(auto, unfolding(crate::specs::Ray::upward_normal))]
 fn upward_normal(time: f32, normal: Vector, upward: Vector) -> Vector
     ensures { result ≡ upward_normal time normal upward }
 {
@@ -71,6 +74,7 @@ fn upward_normal(time: f32, normal: Vector, upward: Vector) -> Vector
 }
 
 // Rule 3: whether a hit has no normal of its own.
+#[tactic(auto, unfolding(crate::specs::Ray::is_undefined))]
 pub fn is_undefined(time: f32, normal: Vector) -> bool
     ensures { result ≡ is_undefined time normal }
 {
@@ -78,6 +82,7 @@ pub fn is_undefined(time: f32, normal: Vector) -> bool
 }
 
 // Rule 3: a zero normal at time 0 becomes minus the direction.
+#[tactic(auto, unfolding(crate::specs::Ray::contact_normal))]
 fn contact_normal(time: f32, normal: Vector, direction: Vector) -> Vector
     ensures { result ≡ contact_normal time normal direction }
 {
@@ -89,6 +94,7 @@ fn contact_normal(time: f32, normal: Vector, direction: Vector) -> Vector
 }
 
 // Rule 4: the wheel after a hit.
+#[tactic(auto, unfolding(crate::specs::Ray::hit_of))]
 fn hit_of(tuning: WheelTuning, chassis: Body, time: f32, normal: Vector, w: Wheel) -> Wheel
     ensures { result ≡ hit_of binary32 tuning chassis time normal w }
 {
@@ -108,13 +114,16 @@ fn hit_of(tuning: WheelTuning, chassis: Body, time: f32, normal: Vector, w: Whee
         length,
         hard,
     };
-    let mut r = w;
-    r.info = info;
-    r.approach = suspension::approach_of(facing, speed);
-    r
+    let approach = suspension::approach_of(facing, speed);
+    Wheel {
+        info,
+        approach,
+        ..w
+    }
 }
 
 // Rule 5: the wheel where nothing was hit.
+#[tactic(auto, unfolding(crate::specs::Ray::miss_of))]
 fn miss_of(w: Wheel) -> Wheel
     ensures { result ≡ miss_of binary32 w }
 {
@@ -131,13 +140,15 @@ fn miss_of(w: Wheel) -> Wheel
         velocity: 0.0,
         inverse: 1.0,
     };
-    let mut r = w;
-    r.info = info;
-    r.approach = approach;
-    r
+    Wheel {
+        info,
+        approach,
+        ..w
+    }
 }
 
 // The wheel once its ray answer is in.
+#[tactic(auto, unfolding(crate::specs::Ray::ray_cast))]
 pub fn ray_cast(tuning: WheelTuning, chassis: Body, answer: RayAnswer, w: Wheel) -> Wheel
     ensures { result ≡ ray_cast binary32 tuning chassis answer w }
 {
@@ -164,17 +175,15 @@ pub fn ray_cast(tuning: WheelTuning, chassis: Body, answer: RayAnswer, w: Wheel)
 }
 
 // Every hit grounds its wheel.
+#[tactic(auto, unfolding(crate::specs::Ray::is_grounded))]
 pub fn is_grounded(answer: RayAnswer) -> bool
     ensures { result ≡ is_grounded answer }
 {
-    match answer {
-        RayAnswer::Nothing => false,
-        RayAnswer::Hit(_, _, _) => true,
-        RayAnswer::HitUp(_, _, _, _) => true,
-    }
+    !matches!(answer, RayAnswer::Nothing)
 }
 
 // The number that an answer names its ground body by; 0 for none.
+#[tactic(auto, unfolding(crate::specs::Ray::named_of))]
 pub fn named_of(answer: RayAnswer) -> u32
     ensures { result ≡ named_of answer }
 {

@@ -7,6 +7,7 @@ use super::{Controls, KeptControls, KeptSteering, Steering};
 use vector::{Normalized, Rotation, Vector};
 
 // The rotation that turns nothing.
+#[tactic(auto, unfolding(crate::specs::Steering::identity))]
 pub fn identity() -> Rotation
     ensures { result ≡ identity }
 {
@@ -15,64 +16,70 @@ pub fn identity() -> Rotation
 }
 
 // The one writer of the row's steering: the last control given, the other of the two as in a new row.
-fn kept_steering(s: Steering) -> KeptSteering
-    ensures { result ≡ kept_steering s }
-{
-    match s {
-        Steering::ByRotation(q) => KeptSteering {
-            rotation: q,
-            angle: 0.0,
-            kind: 0.0,
-        },
-        Steering::ByAngle(angle) => {
-            let rotation = identity();
-            KeptSteering {
+impl From<Steering> for KeptSteering {
+    ghost from_gives = { λ s k. k ≡ kept_steering s };
+
+    #[tactic(auto, unfolding(crate::specs::Steering::kept_steering))]
+    fn from(s: Steering) -> KeptSteering {
+        match s {
+            Steering::ByRotation(rotation) => KeptSteering {
                 rotation,
+                angle: 0.0,
+                kind: 0.0,
+            },
+            Steering::ByAngle(angle) => KeptSteering {
+                rotation: identity(),
                 angle,
                 kind: 1.0,
-            }
+            },
         }
     }
 }
 
 // The one reader of the row's steering.
-pub fn steering_of(k: KeptSteering) -> Steering
-    ensures { result ≡ steering_of k }
-{
-    let q = k.rotation;
-    if real::reads_yes(k.kind) {
-        Steering::ByAngle(k.angle)
-    } else {
-        Steering::ByRotation(q)
+impl From<KeptSteering> for Steering {
+    ghost from_gives = { λ k s. s ≡ steering_of k };
+
+    #[tactic(auto, unfolding(crate::specs::Steering::steering_of))]
+    fn from(k: KeptSteering) -> Steering {
+        if real::reads_yes(k.kind) {
+            Steering::ByAngle(k.angle)
+        } else {
+            Steering::ByRotation(k.rotation)
+        }
     }
 }
 
 // The controls as the row is to keep them.
-pub fn kept_controls(c: Controls) -> KeptControls
-    ensures { result ≡ kept_controls c }
-{
-    let given = c.steering;
-    let steering = kept_steering(given);
-    KeptControls {
-        engine: c.engine,
-        brake: c.brake,
-        steering,
+impl From<Controls> for KeptControls {
+    ghost from_gives = { λ c k. k ≡ kept_controls c };
+
+    #[tactic(auto, unfolding(crate::specs::Steering::kept_controls))]
+    fn from(c: Controls) -> KeptControls {
+        KeptControls {
+            engine: c.engine,
+            brake: c.brake,
+            steering: KeptSteering::from(c.steering),
+        }
     }
 }
 
 // The controls that a row keeps.
-pub fn controls_of(k: KeptControls) -> Controls
-    ensures { result ≡ controls_of k }
-{
-    let steering = steering_of(k.steering);
-    Controls {
-        engine: k.engine,
-        brake: k.brake,
-        steering,
+impl From<KeptControls> for Controls {
+    ghost from_gives = { λ k c. c ≡ controls_of k };
+
+    #[tactic(auto, unfolding(crate::specs::Steering::controls_of))]
+    fn from(k: KeptControls) -> Controls {
+        Controls {
+            engine: k.engine,
+            brake: k.brake,
+            steering: Steering::from(k.steering),
+        }
     }
 }
 
 // What an angle turns about: minus the wheel's world direction, made unit length, and whether that fell back to zero.
+#[tactic(auto, unfolding(crate::specs::Steering::steering_axis))]
 pub fn steering_axis(direction: Vector) -> Normalized
     ensures { result ≡ steering_axis binary32 direction }
 {
@@ -80,6 +87,7 @@ pub fn steering_axis(direction: Vector) -> Normalized
 }
 
 // The source's rotation_from_angle, about an axis that is made unit length.
+#[tactic(auto, unfolding(crate::specs::Steering::rotation_from_angle, angle::specs::Angle::sine_cosine_of))]
 pub fn rotation_from_angle(axis: Vector, angle: f32) -> Rotation
     ensures { result ≡ rotation_from_angle binary32 axis angle }
 {
@@ -89,6 +97,7 @@ pub fn rotation_from_angle(axis: Vector, angle: f32) -> Rotation
 }
 
 // The rotation of a steering, for a wheel with this world direction.
+#[tactic(auto, unfolding(crate::specs::Steering::steering_rotation))]
 pub fn steering_rotation(direction: Vector, s: Steering) -> Rotation
     ensures { result ≡ steering_rotation binary32 direction s }
 {

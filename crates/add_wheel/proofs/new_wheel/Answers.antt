@@ -5,5 +5,4 @@ use Rattle.add_wheel.proofs.new_wheel.Goals as goal
 
 pub returns : goal.returns
 unfolding new_wheel of_bits
-returns c =
-    rw (c.kept_controls-w.ensures, ← c.blank_wheel-w.ensures, ← c.identity-straight.ensures, ← c.zero-zero.ensures)
+returns c = rw (c.into.ensures, c.blank_wheel.ensures, ← c.identity-straight.ensures, ← c.zero.ensures)

@@ -1,9 +1,8 @@
 -- `aim::sights_of` meets its contract: a turn for each wheel. Assumes nothing.
-use Prim.Native.Nat.{◌-◌}
 use native.Mathlib.Omega.{arith}
 use Rattle.lists.proofs.Turns.{turning_start, turning_again, turning_done}
 use Rattle.passes.specs.Passes.{given, each_gives}
-use Rattle.aim.specs.Aim.{sight_of, sights_of}
+use Rattle.aim.specs.Aim.{sights_of}
 use Rattle.aim.proofs.sights_of.Goals as goal
 
 pub loop-i-init : goal.loop-i-init

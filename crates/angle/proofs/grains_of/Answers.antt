@@ -1,15 +1,10 @@
 -- `angle::grains_of` meets its contract. The cast is asked only within 1, where the product is exact (`IntoGrains`). Assumes nothing.
-use mathlib.Core.Bool.{true}
-use mathlib.Core.Path.{◌≡◌}
-use Rattle.std.proofs.Common.{T, sym, refl, ◌∙◌, subst, zero-le}
-use lib.Ieee.{Float, binary32, fits, of_bits}
+use Rattle.std.proofs.Common.{sym, refl, ◌∙◌, zero-le}
+use lib.Ieee.{binary32, of_bits}
+use Rattle.real.proofs.Literals.{held}
 use Rattle.angle.specs.Angle.{grains_of}
 use Rattle.angle.proofs.IntoGrains.{grained_above, grained_below, grained_cut, grains_most}
 use Rattle.angle.proofs.grains_of.Goals as goal
-
--- the format holds h
-held : (h : Float) → fits binary32 h ≡ true → T (fits binary32 h)
-held h e = subst T (sym e) tt
 
 pub truncating_f32_to_u64-requires : goal.truncating_f32_to_u64-requires
 unfolding of_bits

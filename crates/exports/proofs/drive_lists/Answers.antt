@@ -1,11 +1,7 @@
 -- `exports::drive_lists` meets its contract: the drive does, given what the lists hold. Assumes nothing.
 use borrow.Author.Rules.{rules}
-use mathlib.Core.Path.{◌∙◌, ap}
-use lib.ListN.{length}
-use lib.Ieee.{binary32}
-use Rattle.ground.specs.Frame.{Frame}
-use Rattle.drive.specs.Drive.{drive_of}
-use Rattle.flat_in.proofs.Fitting.{lists_say, flags_lent, frame_is}
+use Rattle.flat_in.specs.Lists.{frame_in}
+use Rattle.flat_in.proofs.Fitting.{lists_say, flags_lent, length_given, answers_lent}
 use Rattle.exports.proofs.drive_lists.Goals as goal
 
 pub decode_flags-flags-requires : goal.decode_flags-flags-requires
@@ -17,14 +13,27 @@ decode_answers-answers-requires c =
     let h = lists_say _ _ _ _ c.requires in
     (h.wheels, h.names, h.sized)
 
-pub slice_bounds-drive-end : goal.slice_bounds-drive-end
-slice_bounds-drive-end c =
-    let h = lists_say _ _ _ _ c.before.requires in
+pub slice_bounds-flags-end : goal.slice_bounds-flags-end
+slice_bounds-flags-end c =
+    let h = lists_say _ _ _ _ c.requires in
+    search rules
+
+pub slice_bounds-frame-end : goal.slice_bounds-frame-end
+slice_bounds-frame-end c =
+    let h = lists_say _ _ _ _ c.requires in
+    search rules
+
+pub slice_bounds-answers-end : goal.slice_bounds-answers-end
+slice_bounds-answers-end c =
+    let h = lists_say _ _ _ _ c.requires in
+    search rules
+
+pub slice_bounds-frame-end-2 : goal.slice_bounds-frame-end-2
+slice_bounds-frame-end-2 c =
+    let h = lists_say _ _ _ _ c.requires in
     search rules
 
 pub returns : goal.returns
+unfolding frame_in
 returns c =
-    let a = c.before.args in
-    c.drive.ensures
-    ∙ ap (λ (r : Frame). drive_of binary32 a.table.now a.whole.now r (length a.kinds.now))
-    (frame_is a.dt a.bodies.now _ _ _ _ _ _ (flags_lent _ a.dynamic.now c.decode_flags-flags.ensures) c.decode_answers-answers.ensures)
+    rw (flags_lent _ _ c.decode_flags-flags.ensures, answers_lent _ _ _ _ c.decode_answers-answers.ensures, length_given) at c.drive.ensures

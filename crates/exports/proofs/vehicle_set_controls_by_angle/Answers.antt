@@ -7,11 +7,11 @@ use Rattle.exports.proofs.vehicle_set_controls_by_angle.Goals as goal
 
 pub returns-then-controls-ne-BY_ANGLE : goal.returns-then-controls-ne-BY_ANGLE
 unfolding flat_controls_by_angle
-returns-then-controls-ne-BY_ANGLE c = refused_of_length _ _ _ _ _ _ _ c.if-controls-ne-BY_ANGLE.true
+returns-then-controls-ne-BY_ANGLE c = rw c.number.ensures (refused_of_length _ _ _ _ _ _ _ c.if-controls-ne-BY_ANGLE.true)
 
 pub returns : goal.returns
 unfolding flat_controls_by_angle
 returns c =
     let counted : length c.args.controls.now ≡ table.BY-ANGLE = omega arith in
     settled_of_length _ _ _ _ _ _ _ _ counted
-    (settled_of_call _ _ _ _ _ (rw (← c.by_angle_at-c.ensures) c.set_controls.ensures))
+    (settled_of_call _ _ _ _ _ (rw (← c.by_angle_at-c.ensures, c.answer_number.ensures) c.set_controls.ensures))

@@ -1,5 +1,5 @@
 -- `flat_in::decode_answers` meets its contract: the first i answers are in place. Assumes nothing.
-use Prim.Native.Nat.{◌-◌, ◌≤◌}
+use Prim.Native.Nat.{◌-◌}
 use lib.ListN.{length}
 use Rattle.lists.specs.Counted.{listed}
 use Rattle.lists.proofs.Filling.{Filling}
@@ -7,7 +7,4 @@ use Rattle.flat_in.specs.Lists.{answer_in}
 use Rattle.flat_in.proofs.decode_answers.Given as goal
 
 abbrev pub invariant-loop-i : goal.invariant-loop-i
-invariant-loop-i l = (l.i ≤ length l.kinds) × Filling l.initial.answers l.answers l.i (listed (answer_in l.kinds l.named l.rays) (length l.kinds - l.i) l.i) (listed (answer_in l.kinds l.named l.rays) (length l.kinds) 0)
-
-abbrev pub decreases-loop-i : goal.decreases-loop-i
-decreases-loop-i l = length l.kinds - l.i
+invariant-loop-i l = Filling l.initial.answers l.answers l.i (listed (answer_in l.kinds l.named l.rays) (length l.kinds - l.i) l.i) (listed (answer_in l.kinds l.named l.rays) (length l.kinds) 0)

@@ -1,12 +1,11 @@
--- `flat_out::put_aimed` meets its contract: a refusal leaves the list, and the speed and the sights are written. Assumes nothing.
+-- `flat_out::put_aimed` meets its contract: the speed, and the sights after it, are all of the list. Assumes nothing.
+use borrow.Author.Rules.{rules}
+use mathlib.Core.Path.{◌∙◌}
 use Rattle.aim.specs.Sights.{aimed_list}
-use Rattle.flat_out.proofs.Ending.{left_of_refused, written_of_accepted}
+use Rattle.flat_out.proofs.Sights.{aimed_is}
 use Rattle.flat_out.proofs.put_aimed.Goals as goal
 
-pub returns-then-a-ne0 : goal.returns-then-a-ne0
-returns-then-a-ne0 c = left_of_refused _ _ _ c.if-a-ne0.true
-
-pub returns : goal.returns
+pub returns-in-Ok : goal.returns-in-Ok
 unfolding aimed_list
-returns c =
-    written_of_accepted _ _ _ _ c.if-a-ne0.false c.write_aimed.ensures
+returns-in-Ok c =
+    rw c.in-Ok.is (c.put_sights.ensures ∙ aimed_is c.args.results.now c.in-Ok.a.speed c.in-Ok.a.sights (search rules) (search rules))

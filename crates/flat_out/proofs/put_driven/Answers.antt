@@ -1,13 +1,10 @@
--- `flat_out::put_driven` meets its contract: a refusal leaves the list, and the numbers in order are copied. Assumes nothing.
+-- `flat_out::put_driven` meets its contract: the six velocities and the flag, over the results. Assumes nothing.
+use Rattle.real.proofs.Literals.{flag_is}
+use Rattle.real.specs.Scalar.{flag_number}
 use Rattle.drive.specs.Results.{velocity_list}
 use Rattle.flat_out.specs.Results.{driven_list}
-use Rattle.flat_out.proofs.Ending.{left_of_refused, written_of_accepted}
 use Rattle.flat_out.proofs.put_driven.Goals as goal
 
-pub returns-then-d-ne0 : goal.returns-then-d-ne0
-returns-then-d-ne0 c = left_of_refused _ _ _ c.if-d-ne0.true
-
-pub returns : goal.returns
-unfolding driven_list velocity_list
-returns c =
-    written_of_accepted _ _ _ _ c.if-d-ne0.false (rw (c.flag_number.ensures, c.velocity_numbers-v.ensures) at c.copy.ensures)
+pub returns-in-Ok : goal.returns-in-Ok
+unfolding driven_list velocity_list flag_number
+returns-in-Ok c = rw c.in-Ok.is (rw (c.velocity_numbers-v.ensures, c.from-wake.ensures, flag_is) at c.copy_from_slice.ensures.after)

@@ -10,4 +10,4 @@ pub returns : goal.returns
 unfolding sight_list
 returns c =
     let a = c.args in
-    paste_is a.results.now _ (sight_list a.s) (at.SIGHTS + a.i * SIGHT) SIGHT (c.copy.ensures ∙ c.sight_numbers-numbers.ensures) refl
+    paste_is a.results.now _ (sight_list a.s) (at.SIGHTS + a.i * SIGHT) SIGHT (c.copy_from_slice.ensures.after ∙ c.sight_numbers.ensures) refl

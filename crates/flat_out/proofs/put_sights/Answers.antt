@@ -1,6 +1,5 @@
 -- `flat_out::put_sights` meets its contract: a turn for each wheel. Assumes nothing.
 use borrow.Author.Rules.{rules}
-use Prim.Native.Nat.{◌-◌}
 use native.Mathlib.Omega.{arith}
 use Rattle.flat_out.proofs.Sights.{sighted_start, sighted_again, sighted_done}
 use Rattle.flat_out.proofs.put_sights.Goals as goal

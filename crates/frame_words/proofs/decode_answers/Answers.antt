@@ -1,23 +1,10 @@
 -- `frame_words::decode_answers` meets its contract: the first i answers are in place, and the others start at a. Assumes nothing.
 use native.Mathlib.Omega.{arith}
-use Prim.Native.Nat.{◌-◌}
 use lib.ListN.{get_or}
-use Rattle.lists.proofs.Filling.{fill_none, fill_more, fill_all}
+use Rattle.lists.proofs.Filling.{fill_more, fill_all}
 use Rattle.scenario.specs.Format.{format}
-use Rattle.frame_words.proofs.Answers.{answer_words_le, answers_start_lem, answers_more, answers_end}
+use Rattle.frame_words.proofs.Answers.{answer_words_le, answers_more, answers_end}
 use Rattle.frame_words.proofs.decode_answers.Goals as goal
-
-pub loop-i-init : goal.loop-i-init
-loop-i-init c = let a = c.args in (omega arith, omega arith, fill_none _ _ _ (answers_start_lem format a.words.now a.from a.na))
-
-pub answer_from-requires : goal.answer_from-requires
-answer_from-requires c = omega arith
-
-pub offset_bounds-words-a : goal.offset_bounds-words-a
-offset_bounds-words-a c = omega arith
-
-pub bounds-words-a : goal.bounds-words-a
-bounds-words-a c = omega arith
 
 pub overflow_add-a : goal.overflow_add-a
 overflow_add-a c =

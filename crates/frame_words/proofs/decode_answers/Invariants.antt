@@ -9,6 +9,3 @@ use Rattle.frame_words.proofs.decode_answers.Given as goal
 
 abbrev pub invariant-loop-i : goal.invariant-loop-i
 invariant-loop-i l = (l.i ≤ l.na) × (l.a + (l.na - l.i) * at.HIT-UP-WORDS ≤ code.CODE-WORDS) × Filling l.initial.answers l.answers l.i (answers_from format l.words l.a (l.na - l.i)) (answers_from format l.words l.from l.na)
-
-abbrev pub decreases-loop-i : goal.decreases-loop-i
-decreases-loop-i l = l.na - l.i

@@ -8,7 +8,4 @@ use Rattle.frame_words.specs.Frame.{body_number_from, bodies_from}
 use Rattle.frame_words.proofs.decode_bodies.Given as goal
 
 abbrev pub invariant-loop-k : goal.invariant-loop-k
-invariant-loop-k l = (l.k ≤ l.nb * table.BODY) × Filling l.initial.bodies l.bodies l.k (listed (body_number_from format l.words) (l.nb * table.BODY - l.k) l.k) (bodies_from format l.words l.nb)
-
-abbrev pub decreases-loop-k : goal.decreases-loop-k
-decreases-loop-k l = l.nb * table.BODY - l.k
+invariant-loop-k l = (l.k ≤ l.nb * table.BODY) × Filling l.initial.number-items l.number-items l.k (listed (body_number_from format l.words) (l.nb * table.BODY - l.k) l.k) (bodies_from format l.words l.nb)

@@ -6,7 +6,4 @@ use Rattle.frame_words.specs.Frame.{flag_from, flags_from}
 use Rattle.frame_words.proofs.decode_flags.Given as goal
 
 abbrev pub invariant-loop-i : goal.invariant-loop-i
-invariant-loop-i l = (l.i ≤ l.nb) × Filling l.initial.flags l.flags l.i (listed (flag_from l.words) (l.nb - l.i) l.i) (flags_from l.words l.nb)
-
-abbrev pub decreases-loop-i : goal.decreases-loop-i
-decreases-loop-i l = l.nb - l.i
+invariant-loop-i l = (l.i ≤ l.nb) × Filling l.initial.flag-items l.flag-items l.i (listed (flag_from l.words) (l.nb - l.i) l.i) (flags_from l.words l.nb)

@@ -13,18 +13,18 @@ loop-k-init c = none_read _ _
 pub overflow_mul-value : goal.overflow_mul-value
 overflow_mul-value c =
     let h = sym c.bad_group.ensures ∙ c.if-bad_group.false in
-    omega (arith, sum_fits c.loop-k.invariant c.if-k-bytes.false _ h c.wide.ensures, pow_mono c.requires)
+    omega (arith, sum_fits c.loop-k.invariant c.if-k-bytes.false _ h c.from.ensures, pow_mono c.requires)
 
 pub overflow_add-value : goal.overflow_add-value
 overflow_add-value c =
     let h = sym c.bad_group.ensures ∙ c.if-bad_group.false in
-    omega (arith, sum_fits c.loop-k.invariant c.if-k-bytes.false _ h c.wide.ensures, pow_mono c.requires)
+    omega (arith, sum_fits c.loop-k.invariant c.if-k-bytes.false _ h c.from.ensures, pow_mono c.requires)
 
 pub overflow_mul-unit : goal.overflow_mul-unit
 overflow_mul-unit c =
     let h = sym c.bad_group.ensures ∙ c.if-bad_group.false in
     let few : last c.args.bits ≤ last 32 = omega (arith, c.requires) in
-    omega (arith, unit_fits c.loop-k.invariant c.if-k-bytes.false _ h c.wide.ensures (last 32) few c.if-b-lt-GROUP.false)
+    rw c.from-unit.ensures (omega (arith, unit_fits c.loop-k.invariant c.if-k-bytes.false _ h c.from.ensures (last 32) few c.if-b-lt-GROUP.false))
 
 pub loop-k-smaller : goal.loop-k-smaller
 loop-k-smaller c =
@@ -34,7 +34,7 @@ loop-k-smaller c =
 pub loop-k-preserved : goal.loop-k-preserved
 loop-k-preserved c =
     let h = sym c.bad_group.ensures ∙ c.if-bad_group.false in
-    one_more c.loop-k.invariant c.if-k-bytes.false _ h c.wide.ensures c.if-b-lt-GROUP.false
+    rw c.from-unit.ensures (one_more c.loop-k.invariant c.if-k-bytes.false _ h c.from.ensures c.if-b-lt-GROUP.false)
 
 pub returns-then-k-bytes : goal.returns-then-k-bytes
 returns-then-k-bytes c = ends_short c.loop-k.invariant c.if-k-bytes.true
@@ -46,4 +46,4 @@ returns-then-bad_group c =
 pub returns-then-b-lt-GROUP : goal.returns-then-b-lt-GROUP
 returns-then-b-lt-GROUP c =
     let h = sym c.bad_group.ensures ∙ c.if-bad_group.false in
-    ends_value c.loop-k.invariant c.if-k-bytes.false _ h c.wide.ensures c.if-b-lt-GROUP.true
+    ends_value c.loop-k.invariant c.if-k-bytes.false _ h c.from.ensures c.if-b-lt-GROUP.true

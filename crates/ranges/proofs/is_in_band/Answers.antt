@@ -5,4 +5,4 @@ use Rattle.ranges.proofs.is_in_band.Goals as goal
 
 pub returns : goal.returns
 unfolding in_band of_bits
-returns c = rw (← c.is_in_range.ensures)
+returns c = c.is_in_range.ensures

@@ -1,6 +1,6 @@
 -- `root_of` at each kind of bit pattern, for either format, in the terms of the code. Assumes nothing.
 use mathlib.Core.Path.{◌≡◌, refl, sym, ap, ◌∙◌, subst}
-use mathlib.Core.Bool.{Bool, true, false, not, cond, true≢false}
+use mathlib.Core.Bool.{Bool, true, false, cond, true≢false}
 use Prim.Native.Nat.{ℕ, zero, suc, ◌+◌, ◌-◌, ◌*◌, ◌/◌, ◌%◌, ◌^◌, ◌≤◌, ◌<◌}
 use native.Mathlib.Nat.{le_trans, le_of_eq, lt_of_lt_of_le, lt_of_le_of_lt, le-add_right, sub-le, mul_assoc, mul-pos, mul-le-mul_right, mul-lt-mul_of_pos_right, mod-eq_of_lt}
 use native.Mathlib.Omega.{arith}
@@ -9,9 +9,8 @@ use lib.Dec.{T, leb, eqb, le→leb, eqb_refl, lit≤}
 use lib.Pow.{pow-add, pow_pos, pow_mono}
 use lib.Count.{count_leading_zeros, leading_top}
 use lib.Bits.{bit_and, bit_or, and_mask, or_shifted_r}
-use lib.Ieee.{Float, nan, inf, fin, Format, binary32, binary64, prec, low, hid, ones, top, odd, is_nan, ne, sub, of_fields, of_bits}
+use lib.Ieee.{Float, nan, inf, fin, Format, binary32, binary64, prec, low, hid, ones, top, odd, is_nan, sub, of_fields, of_bits}
 use lib.Ieee.Bits.{is_true, of_bits-fits}
-use lib.Ieee.Compare.{differs_from_itself, nan_differs}
 use lib.Ieee.Exact.{HasValue, odd_sign}
 use lib.Ieee.Positive.{positive_of_value}
 use Rattle.real.specs.Units.{unit}
@@ -22,15 +21,11 @@ use Rattle.real.proofs.root.Patterns.{of_bits_is, fields, normal, subnormal}
 use Rattle.real.proofs.root.Rounding.{origin, limit, width}
 
 -- ---- a NaN
-pub of_nan : (f : Format) (x : Float) → ne x x ≡ true → x ≡ root_of f x
-unfolding root_of
-of_nan f x e = subst (λ (y : Float). y ≡ root_of f y) (sym (differs_from_itself x (subst T (sym e) tt))) refl
-
-pub no_nan : (x : Float) → ne x x ≡ false → T (not (is_nan x))
-unfolding is_nan
-no_nan nan e = absurd (true≢false (sym nan_differs ∙ e))
-no_nan (inf s) e = tt
-no_nan (fin s m d) e = tt
+pub of_nan : (f : Format) (x : Float) → is_nan x ≡ true → x ≡ root_of f x
+unfolding is_nan root_of
+of_nan f nan e = refl
+of_nan f (inf s) e = absurd (true≢false (sym e))
+of_nan f (fin s m d) e = absurd (true≢false (sym e))
 
 -- ---- the pattern without its sign, `bits & MAGNITUDE`, and its digits, `bits & FRACTION`
 magnitude : (f : Format) (b : ℕ) → bit_and b (top f - 1) ≡ b % top f

@@ -10,8 +10,8 @@ use Rattle.replies.proofs.put_floats.Goals as goal
 pub slice_bounds-numbers-end : goal.slice_bounds-numbers-end
 slice_bounds-numbers-end c = let k = count_fits _ _ c.reading_count-count.ensures in search rules
 
-pub slice_bounds-put_numbers-end : goal.slice_bounds-put_numbers-end
-slice_bounds-put_numbers-end c = let k = count_fits _ _ c.reading_count-count.ensures in sym (length-take-le _ _ (search rules))
+pub slice_bounds-put_numbers-end-2 : goal.slice_bounds-put_numbers-end-2
+slice_bounds-put_numbers-end-2 c = let k = count_fits _ _ c.reading_count-count.ensures in sym (length-take-le _ _ (search rules))
 
 pub put_numbers-requires : goal.put_numbers-requires
 put_numbers-requires c =

@@ -1,43 +1,35 @@
 -- `drive::advance::drive` meets its contract: refused early, refused by the step, or done. Assumes nothing.
 use native.Mathlib.Omega.{arith}
-use mathlib.Core.Path.{sym, ◌∙◌}
-use Rattle.drive.specs.Drive.{drive_of}
-use Rattle.early.proofs.Accepted.{early_tests_say}
-use Rattle.drive.proofs.Tries.{drive_accepted, drive_refused_late, drive_refused}
+use mathlib.Core.Path.{refl}
+use Rattle.std.proofs.lemmas.Result.{err_from_is_err_and}
+use Rattle.refusals.proofs.Lent.{lent_rows, lent_back, refused_call}
+use Rattle.refusals.proofs.Settled.{number_not_zero}
+use Rattle.drive.specs.Drive.{not_driven, drive_of, drive_under}
+use Rattle.drive.proofs.Accepted.{tested_shape}
+use Rattle.drive.proofs.Tries.{drive_accepted, drive_refused_late, refused_early}
 use Rattle.drive.proofs.advance.drive.Goals as goal
 
-pub returns-then-number-ne0 : goal.returns-then-number-ne0
+pub returns-in_err-on : goal.returns-in_err-on
+unfolding drive_of drive_under
+returns-in_err-on c =
+    refused_call _ _ _ _ _ _ _ _ c.from_residual.ensures.1 (refused_early _ _ _ _ _ _ _ c.in_err-on.ensures.number (number_not_zero _))
+
+pub unwrap-rows-requires : goal.unwrap-rows-requires
+unwrap-rows-requires c = let s = tested_shape _ _ _ _ _ c.in_ok-on.ensures.number in c.first_chunk_mut.ensures.variant.1 (omega arith)
+
+pub returns-in_err-driven : goal.returns-in_err-driven
+unfolding drive_of not_driven
+returns-in_err-driven c =
+    let s = tested_shape _ _ _ _ _ c.in_ok-on.ensures.number in
+    let rows = lent_rows _ _ _ c.unwrap-rows.ensures c.first_chunk_mut.ensures.cases s.sized in
+    let p = err_from_is_err_and c.from_residual-in_err-driven.result c.from_residual-in_err-driven.ensures.1 in
+    let step = rw (rows, c.in_ok-on.ensures.same) at c.in_err-driven.ensures in
+    rw (p.1, p.2, lent_back _ _ s.sized) (drive_refused_late _ _ _ _ _ _ _ _ step c.in_ok-on.ensures.number (number_not_zero _))
+
+pub returns : goal.returns
 unfolding drive_of
-returns-then-number-ne0 c = drive_refused _ _ _ _ _ _ _ _ c.refuse_early-number.ensures c.if-number-ne0.true c.not_driven.ensures
-
-pub bounds-whole-2 : goal.bounds-whole-2
-bounds-whole-2 c =
-    let s = (((early_tests_say _ _ _ _ _ (sym c.refuse_early-number.ensures ∙ c.if-number-ne0.false)).frame)).shape in
-    omega arith
-
-pub try_step-r-requires : goal.try_step-r-requires
-try_step-r-requires c =
-    let h = ((early_tests_say _ _ _ _ _ (sym c.refuse_early-number.ensures ∙ c.if-number-ne0.false)).frame) in
-    let s = h.shape in
-    (s.sized, omega arith, h.lists)
-
-pub bounds-whole-1 : goal.bounds-whole-1
-bounds-whole-1 c =
-    let s = (((early_tests_say _ _ _ _ _ (sym c.refuse_early-number.ensures ∙ c.if-number-ne0.false)).frame)).shape in
-    omega arith
-
-pub shape_of-table-then-r-eq0 : goal.shape_of-table-then-r-eq0
-shape_of-table-then-r-eq0 c = c.try_step-r.auto.table
-
-pub returns-then-r-eq0 : goal.returns-then-r-eq0
-unfolding drive_of
-returns-then-r-eq0 c =
-    drive_accepted _ _ _ _ _ _ _ _ c.try_step-r.ensures _ c.refuse_early-number.ensures c.if-number-ne0.false c.if-r-eq0.true
-
-pub shape_of-table-else-r-eq0 : goal.shape_of-table-else-r-eq0
-shape_of-table-else-r-eq0 c = c.try_step-r.auto.table
-
-pub returns-else-r-eq0 : goal.returns-else-r-eq0
-unfolding drive_of
-returns-else-r-eq0 c =
-    drive_refused_late _ _ _ _ _ _ _ _ c.try_step-r.ensures _ c.refuse_early-number.ensures c.if-number-ne0.false c.if-r-eq0.false
+returns c =
+    let s = tested_shape _ _ _ _ _ c.in_ok-on.ensures.number in
+    let rows = lent_rows _ _ _ c.unwrap-rows.ensures c.first_chunk_mut.ensures.cases s.sized in
+    let step = rw (rows, c.in_ok-on.ensures.same) at c.in_ok-driven.ensures in
+    rw (lent_back _ _ s.sized) (drive_accepted _ _ _ _ _ _ _ _ step c.in_ok-on.ensures.number refl)

@@ -1,5 +1,5 @@
 -- `drive::advance::wakes` meets its contract: the invariant is that the wheels from i on decide. Assumes nothing.
-use Prim.Native.Nat.{ℕ, ◌-◌}
+use Prim.Native.Nat.{ℕ}
 use mathlib.Core.Bool.{true, false, not}
 use mathlib.Core.List.{List}
 use mathlib.Core.Path.{◌≡◌, ◌∙◌, sym, ap}

@@ -7,6 +7,3 @@ use Rattle.drive.proofs.advance.wakes.Given as goal
 
 abbrev pub invariant-loop-i : goal.invariant-loop-i
 invariant-loop-i l = every (idle_at l.table) l.n 0 ≡ every (idle_at l.table) (l.n - l.i) l.i
-
-abbrev pub decreases-loop-i : goal.decreases-loop-i
-decreases-loop-i l = l.n - l.i

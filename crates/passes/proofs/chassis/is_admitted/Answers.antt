@@ -1,17 +1,24 @@
--- `passes::chassis::is_admitted` meets its contract: the tests of refusal 7, in the code's order. Assumes nothing.
-use lib.Ieee.{of_bits}
-use Rattle.lists.proofs.Picks.{picks}
+-- `passes::chassis::is_admitted` meets its contract: three tests of one bound. Assumes nothing.
+use mathlib.Core.Bool.{Bool, true, false}
+use mathlib.Core.List.{[], ◌∷◌}
+use mathlib.Core.Path.{◌≡◌, refl, ap, ◌∙◌}
+use lib.Ieee.{Float, of_bits}
+use Rattle.lists.specs.All.{all}
+use Rattle.lists.specs.Pick.{pick, ◌and◌}
+use Rattle.real.specs.Scalar.{within}
+use Rattle.table.specs.Bounds.{all_within, STORED}
 use Rattle.passes.specs.Passes.{admits}
 use Rattle.passes.proofs.chassis.is_admitted.Goals as goal
 
-pub returns-then-not-is_within : goal.returns-then-not-is_within
-unfolding admits of_bits
-returns-then-not-is_within c = search picks depth 40 fits 4000
+last : (b : Bool) → (b and true) ≡ b
+unfolding pick
+last true = refl
+last false = refl
 
-pub returns-then-not-is_within-2 : goal.returns-then-not-is_within-2
-unfolding admits of_bits
-returns-then-not-is_within-2 c = search picks depth 40 fits 4000
+three : (p : Float → Bool) (r : Bool) (x y z : Float) → r ≡ all p (x ∷ y ∷ z ∷ []) → r ≡ (p x and p y and p z)
+unfolding all
+three p r x y z h = h ∙ ap (λ (b : Bool). p x and p y and b) (last (p z))
 
 pub returns : goal.returns
-unfolding admits of_bits
-returns c = rw (← c.wheel_limit.ensures) (search picks depth 40 fits 4000)
+unfolding admits all_within of_bits
+returns c = rw (← c.wheel_limit-limit.ensures) (three (within STORED) _ _ _ _ c.all_within.ensures)

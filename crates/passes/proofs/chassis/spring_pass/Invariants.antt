@@ -1,5 +1,4 @@
 -- `passes::chassis::spring_pass` meets its contract: a turn for each wheel. Assumes nothing.
-use Prim.Native.Nat.{◌-◌}
 use lib.Ieee.{binary32}
 use Rattle.passes.specs.Passes.{stored, spring_at}
 use Rattle.passes.proofs.Laws.{Moving}
@@ -7,6 +6,3 @@ use Rattle.passes.proofs.chassis.spring_pass.Given as goal
 
 abbrev pub invariant-loop-i : goal.invariant-loop-i
 invariant-loop-i l = Moving (spring_at binary32 stored l.dt) l.n l.table l.initial.c l.i l.c
-
-abbrev pub decreases-loop-i : goal.decreases-loop-i
-decreases-loop-i l = l.n - l.i

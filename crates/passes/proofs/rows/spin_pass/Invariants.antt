@@ -1,5 +1,5 @@
 -- `passes::rows::spin_pass` meets its contract: a turn for each wheel. Assumes nothing.
-use Prim.Native.Nat.{◌-◌}
+use lib.ListN.{length}
 use lib.Ieee.{binary32}
 use Rattle.wheel.specs.Ray.{answer_at}
 use Rattle.passes.specs.Passes.{spin_at}
@@ -7,7 +7,4 @@ use Rattle.passes.proofs.Laws.{Passing}
 use Rattle.passes.proofs.rows.spin_pass.Given as goal
 
 abbrev pub invariant-loop-i : goal.invariant-loop-i
-invariant-loop-i l = Passing (spin_at binary32 l.dt l.chassis (answer_at l.answers)) l.n l.initial.table l.i l.table
-
-abbrev pub decreases-loop-i : goal.decreases-loop-i
-decreases-loop-i l = l.n - l.i
+invariant-loop-i l = Passing (spin_at binary32 l.fn.on.frame.dt l.chassis (answer_at l.fn.on.frame.answers.now)) (length l.fn.on.frame.answers.now) l.initial.table l.i l.table

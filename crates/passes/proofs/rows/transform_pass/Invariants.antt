@@ -1,5 +1,4 @@
 -- `passes::rows::transform_pass` meets its contract: a turn for each wheel. Assumes nothing.
-use Prim.Native.Nat.{◌-◌}
 use lib.Ieee.{binary32}
 use Rattle.passes.specs.Passes.{transform_at}
 use Rattle.passes.proofs.Laws.{Passing}
@@ -7,6 +6,3 @@ use Rattle.passes.proofs.rows.transform_pass.Given as goal
 
 abbrev pub invariant-loop-i : goal.invariant-loop-i
 invariant-loop-i l = Passing (transform_at binary32 l.pose) l.n l.initial.table l.i l.table
-
-abbrev pub decreases-loop-i : goal.decreases-loop-i
-decreases-loop-i l = l.n - l.i

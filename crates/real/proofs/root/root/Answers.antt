@@ -1,35 +1,25 @@
 -- `real::root::root` meets its contract: x is what its bits are read as, and each return is `root_of` at a kind of pattern, `Cases.antt` at binary32. Assumes nothing.
 use mathlib.Core.Path.{◌≡◌, sym, subst, ap, ◌∙◌}
 use mathlib.Core.Bool.{true}
-use lib.Dec.{T}
-use lib.Ieee.{Float, binary32, fits, of_bits, to_bits, nan_bits}
+use lib.Ieee.{Float, binary32, fits, of_bits, to_bits}
 use lib.Ieee.Bits.{of_bits-to_bits, to_bits-lt}
 use Rattle.real.specs.Root.{root_of}
-use Rattle.real.proofs.root.Cases.{of_nan, no_nan, of_zero, of_negative, of_top, is_positive}
+use Rattle.real.proofs.Literals.{held}
+use Rattle.real.proofs.root.Cases.{of_nan, of_zero, of_negative, of_top, is_positive}
 use Rattle.real.proofs.root.root.Goals as goal
 
 -- ---- the format holds x, so x is its bits read back
-held : (x : Float) → fits binary32 x ≡ true → T (fits binary32 x)
-held x e = subst T (sym e) tt
-
 read : (x : Float) → fits binary32 x ≡ true → (r : Float) → r ≡ root_of binary32 (of_bits binary32 (to_bits binary32 x)) → r ≡ root_of binary32 x
 read x h r e = e ∙ ap (root_of binary32) (of_bits-to_bits binary32 x (held x h))
 
 same : (x : Float) → fits binary32 x ≡ true → of_bits binary32 (to_bits binary32 x) ≡ root_of binary32 (of_bits binary32 (to_bits binary32 x)) → x ≡ root_of binary32 x
 same x h e = subst (λ (y : Float). y ≡ root_of binary32 y) (of_bits-to_bits binary32 x (held x h)) e
 
-pub returns-then-x : goal.returns-then-x
-returns-then-x c = of_nan binary32 c.args.x c.if-x.true
-
-pub float_to_bits-bits : goal.float_to_bits-bits
-float_to_bits-bits c = no_nan c.args.x c.if-x.false
+pub returns-then-is_nan : goal.returns-then-is_nan
+returns-then-is_nan c = of_nan binary32 c.args.x (sym c.is_nan.ensures.value ∙ c.if-is_nan.true)
 
 pub returns-then-bits-eq0 : goal.returns-then-bits-eq0
 returns-then-bits-eq0 c = same c.args.x c.well_formed.0.1 (of_zero binary32 (to_bits binary32 c.args.x) c.if-bits-eq0.true)
-
-pub float_from_bits-infinity : goal.float_from_bits-infinity
-unfolding nan_bits
-float_from_bits-infinity c = tt
 
 pub returns-then-bits-eq1 : goal.returns-then-bits-eq1
 returns-then-bits-eq1 c = read c.args.x c.well_formed.0.1 _ (of_negative binary32 (to_bits binary32 c.args.x) c.if-bits-eq0.false c.if-bits-eq1.true)

@@ -1,5 +1,5 @@
 -- `scenario::bits::float_of` meets its contract: a pattern above an infinity's is read as a NaN. Assumes nothing.
-use mathlib.Core.Path.{refl, sym}
+use mathlib.Core.Path.{sym}
 use lib.Ieee.{div, of_bits}
 use Rattle.scenario.specs.Format.{format}
 use Rattle.scenario.proofs.Patterns.{nan_of_above, no_nan_of_not_above}
@@ -11,6 +11,3 @@ returns-then-bits-gt-INFINITY c = sym (nan_of_above format c.args.bits c.if-bits
 
 pub float_from_bits-result : goal.float_from_bits-result
 float_from_bits-result c = no_nan_of_not_above format c.args.bits c.if-bits-gt-INFINITY.false
-
-pub returns : goal.returns
-returns c = refl

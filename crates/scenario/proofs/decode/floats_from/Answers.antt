@@ -1,7 +1,6 @@
 -- `scenario::decode::floats_from` meets its contract: the first i floats are in place. Assumes nothing.
-use borrow.Author.Rules.{rules}
 use native.Mathlib.Omega.{arith}
-use Prim.Native.Nat.{ℕ, ◌+◌, ◌-◌}
+use Prim.Native.Nat.{ℕ, ◌+◌}
 use mathlib.Core.Path.{◌∙◌}
 use lib.ListN.{length}
 use lib.Ieee.{Float}
@@ -17,21 +16,12 @@ pub loop-i-init : goal.loop-i-init
 unfolding floats_from
 loop-i-init c = let a = c.args in (omega arith, fill_none _ _ _ (listed_start (λ j. float_from format a.words.now (a.a + j)) (length a.numbers.now)))
 
-pub float_from-requires : goal.float_from-requires
-float_from-requires c = let s = c.loop-i.invariant.1.sized in search rules
-
-pub loop-i-smaller : goal.loop-i-smaller
-loop-i-smaller c = let s = c.loop-i.invariant.1.sized in search rules
-
 pub loop-i-preserved : goal.loop-i-preserved
 loop-i-preserved c =
     let a = c.args in
     let s = c.loop-i.invariant.1.sized in
     let more = listed_more (λ j. float_from format a.words.now (a.a + j)) (length a.numbers.now) c.loop-i.i (omega arith) in
     (omega arith, fill_more _ _ _ _ _ _ _ (omega arith) (rw c.float_from.ensures more) c.loop-i.invariant.1)
-
-pub shape_of-numbers : goal.shape_of-numbers
-shape_of-numbers c = c.loop-i.invariant.1.sized
 
 pub returns : goal.returns
 unfolding floats_from

@@ -9,6 +9,3 @@ use Rattle.scenario.proofs.decode.floats_from.Given as goal
 
 abbrev pub invariant-loop-i : goal.invariant-loop-i
 invariant-loop-i l = (l.i ≤ length l.initial.numbers) × Filling l.initial.numbers l.numbers l.i (listed (λ j. float_from format l.words (l.a + j)) (length l.initial.numbers - l.i) l.i) (floats_from format l.words l.a (length l.initial.numbers))
-
-abbrev pub decreases-loop-i : goal.decreases-loop-i
-decreases-loop-i l = length l.initial.numbers - l.i

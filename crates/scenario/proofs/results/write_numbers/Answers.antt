@@ -1,32 +1,18 @@
 -- `scenario::results::write_numbers` meets its contract: the first i patterns are in place. Assumes nothing.
-use borrow.Author.Rules.{rules}
 use native.Mathlib.Omega.{arith}
-use Prim.Native.Nat.{◌-◌}
-use mathlib.Core.Path.{refl, ◌∙◌}
+use mathlib.Core.Path.{◌∙◌}
 use Rattle.lists.proofs.Parts.{paste_all}
-use Rattle.lists.proofs.Filling.{fill_none, fill_more, fill_all}
+use Rattle.lists.proofs.Filling.{fill_more, fill_all}
 use Rattle.scenario.specs.Format.{format}
 use Rattle.scenario.specs.Results.{words_of}
 use Rattle.scenario.proofs.Words.{length_words, words_more, words_end}
 use Rattle.scenario.proofs.results.write_numbers.Goals as goal
-
-pub loop-i-init : goal.loop-i-init
-loop-i-init c = (omega arith, fill_none _ _ _ refl)
-
-pub offset_bounds-words-i : goal.offset_bounds-words-i
-offset_bounds-words-i c = let s = c.loop-i.invariant.1.sized in search rules
-
-pub bounds-words-i : goal.bounds-words-i
-bounds-words-i c = let s = c.loop-i.invariant.1.sized in omega arith
 
 pub loop-i-preserved : goal.loop-i-preserved
 loop-i-preserved c =
     let a = c.args in
     let more = words_more format a.numbers.now c.loop-i.i (omega arith) in
     (omega arith, fill_more _ _ _ _ _ _ _ (omega arith) (rw c.bits_of.ensures more) c.loop-i.invariant.1)
-
-pub shape_of-words : goal.shape_of-words
-shape_of-words c = c.loop-i.invariant.1.sized
 
 pub returns : goal.returns
 returns c =

@@ -4,8 +4,8 @@ use lib.ListN.{length}
 use Rattle.session.proofs.Running.{Running}
 use Rattle.session.proofs.runs.run_codes.Given as goal
 
-abbrev pub invariant-loop-out : goal.invariant-loop-out
-invariant-loop-out l = Running l.last l.bytes l.initial.table l.initial.whole l.initial.out l.table l.whole l.out l.taken l.at
+abbrev pub invariant-loop-car : goal.invariant-loop-car
+invariant-loop-car g l = Running l.last l.bytes l.initial.car g.row.N l.car l.text l.taken
 
-abbrev pub decreases-loop-out : goal.decreases-loop-out
-decreases-loop-out l = length l.bytes - l.taken
+abbrev pub decreases-loop-car : goal.decreases-loop-car
+decreases-loop-car g l = length l.bytes - l.taken

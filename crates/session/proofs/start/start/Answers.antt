@@ -1,6 +1,5 @@
 -- `session::start::start` meets its contract. Assumes nothing.
 use borrow.Author.Rules.{rules}
-use native.Mathlib.Omega.{arith}
 use mathlib.Core.Path.{◌≡◌}
 use lib.ListN.{length}
 use Rattle.table.specs.Layout as places
@@ -11,6 +10,6 @@ use Rattle.session.proofs.start.start.Goals as goal
 pub returns : goal.returns
 unfolding title
 returns c =
-    let rows : length c.args.table.now ≡ places.SIZE = search rules in
-    let marks : length c.args.whole.now ≡ places.WHOLE = search rules in
-    record { puts = c.put_title.ensures; text_fits = omega (arith, c.put_title.ensures.end); car = set_up_starts _ _ _ _ _ rows marks c.set_up.ensures }
+    let rows : length c.args.car.now.table ≡ places.SIZE = search rules in
+    let marks : length c.args.car.now.whole ≡ places.WHOLE = search rules in
+    record { text = rw c.clear.ensures at c.put_title.ensures; car = set_up_starts _ _ _ rows marks c.set_up.ensures }

@@ -1,17 +1,11 @@
--- `table::bounds::all_within` meets its contract: the numbers so far and those from i on decide together. Assumes nothing.
-use Prim.Native.Nat.{◌-◌}
+-- `table::bounds::all_within` meets its contract: every number is looked at. Assumes nothing.
 use native.Mathlib.Omega.{arith}
-use lib.Ieee.{nan}
-use Rattle.lists.proofs.Every.{looking_start, looking_again, looking_done}
+use Rattle.std.proofs.lemmas.Grind.{common_steps}
+use Rattle.lists.proofs.Chains.{all_fold}
+use Rattle.real.specs.Scalar.{within}
 use Rattle.table.specs.Bounds.{all_within}
 use Rattle.table.proofs.bounds.all_within.Goals as goal
 
-pub loop-i-init : goal.loop-i-init
-loop-i-init c = looking_start _ _
-
-pub loop-i-preserved : goal.loop-i-preserved
-loop-i-preserved c = looking_again _ _ _ nan _ _ c.loop-i.invariant (omega arith) c.is_within-ok.ensures
-
 pub returns : goal.returns
 unfolding all_within
-returns c = looking_done _ _ _ _ c.loop-i.invariant (omega arith)
+returns c = all_fold (within c.args.most) _ (grind (arith, common_steps))

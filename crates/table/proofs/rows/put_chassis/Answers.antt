@@ -10,4 +10,4 @@ pub returns : goal.returns
 unfolding put_chassis
 returns c =
     let a = c.args in
-    paste_is a.table.now _ (chassis_list a.c) 0 at.KEPT (c.copy.ensures ∙ c.chassis_numbers-numbers.ensures) (sym (length_chassis a.c))
+    paste_is a.table.now _ (chassis_list a.c) 0 at.KEPT (c.copy_from_slice.ensures.after ∙ c.chassis_numbers.ensures) (sym (length_chassis a.c))

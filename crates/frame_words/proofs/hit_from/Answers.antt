@@ -1,8 +1,0 @@
--- `frame_words::hit_from` meets its contract: the definition, replayed as the code runs. Assumes nothing.
-use Rattle.scenario.specs.Decode.{number_from}
-use Rattle.frame_words.specs.Frame.{hit_from}
-use Rattle.frame_words.proofs.hit_from.Goals as goal
-
-pub returns : goal.returns
-unfolding hit_from number_from
-returns c = rw (← c.float_from-time.ensures, ← c.vector_from-normal.ensures)

@@ -1,7 +1,0 @@
--- `scenario::decode::controls_by_angle_from` meets its contract: the definition, replayed as the code runs. Assumes nothing.
-use Rattle.scenario.specs.Decode.{controls_by_angle_from}
-use Rattle.scenario.proofs.decode.controls_by_angle_from.Goals as goal
-
-pub returns : goal.returns
-unfolding controls_by_angle_from
-returns c = rw (← c.floats_from.ensures, ← c.by_angle_at.ensures)

@@ -1,8 +1,0 @@
--- `table::parts::settings_at` meets its contract: the definition, replayed as the code runs. Assumes nothing.
-use Rattle.table.specs.Rows.{settings_at}
-use Rattle.table.proofs.parts.settings_at.Goals as goal
-
-pub returns : goal.returns
-unfolding settings_at
-returns c =
-    rw (← c.vector_at.ensures, ← c.vector_at-2.ensures, ← c.vector_at-3.ensures, ← c.tuning_at.ensures)

@@ -1,6 +1,0 @@
--- `table::parts::write_force` meets its contract: one number of the row is set. Assumes nothing.
-use Rattle.table.proofs.Writes.{row_written, writes}
-use Rattle.table.proofs.parts.write_force.Goals as goal
-
-pub returns : goal.returns
-returns c = row_written (writes.force _) _ c.requires

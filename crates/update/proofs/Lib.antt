@@ -1,2 +1,0 @@
--- The laws that the proofs of a step cite.
-pub mod Steps
