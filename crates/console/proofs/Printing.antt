@@ -78,7 +78,7 @@ module _ (f : Format) (room : ℕ) where
       sym (further_text (k + j) [] x) ∙ ap (λ (p : Progress). p.text) stays
 
 -- The theorem: once the program has ended, what its runs printed is what document 01 says of the bytes that were read.
-pub run_prints : {r : ℕ} {window : List ℕ} {c : Car} (p : Serves start_car [] r window c) → p.end.ended ≡ true → title ++ p.end.text ≡ printed format (joined p.blocks)
+pub run_prints : {window : List ℕ} {c : Car} (p : Serves start_car [] window c) → p.end.ended ≡ true → title ++ p.end.text ≡ printed format (joined p.blocks)
 unfolding program
 run_prints p e =
     let x = serving false start_car [] p.blocks in

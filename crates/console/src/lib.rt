@@ -3,7 +3,7 @@
 // the write. A stream of any length runs in the same memory.
 #![tactic(auto)]
 
-ghost use Rattle.std.specs.Prelude.{◌↔◌, ◌≤◌, ◌≡◌, IfErr, IsTrue, length, take};
+ghost use Rattle.std.specs.Prelude.{◌↔◌, ◌≤◌, ◌≡◌, IfErr, IsTrue, length};
 ghost use Rattle.std.specs.IoError.{error_kind};
 ghost use Rattle.scenario.specs.Format.{format};
 ghost use Rattle.session.specs.Layout as layout;
@@ -16,23 +16,23 @@ ghost use Rattle.console.specs.Serves.{Serves};
 
 use lines::text::Text;
 use perform::Car;
+use session::Stands;
 use session::layout::{TEXT_BYTES, WINDOW_BYTES};
-use session::{Stands, Step};
+use session::window::Window;
 use std::io::{self, ErrorKind, Read, Write};
 
-// Where the reading stands: how many bytes are in the window, whether the input has ended, and whether the program runs on.
+// Where the reading stands: whether the input has ended, and whether the program runs on.
 #[derive(Clone, Copy)]
 struct Input {
-    filled: usize,
     last: bool,
     runs: bool,
 }
 
-// The three in one.
-fn standing(filled: usize, last: bool, runs: bool) -> Input
-    ensures { result ≡ input filled last runs }
+// The two in one.
+fn standing(last: bool, runs: bool) -> Input
+    ensures { result ≡ input last runs }
 {
-    Input { filled, last, runs }
+    Input { last, runs }
 }
 
 // Writes a text of the program's, and answers whether it could. All that is written goes through here.
@@ -53,115 +53,101 @@ fn is_interrupted(got: &io::Result<usize>) -> bool
     }
 }
 
-// Reads what comes next, and answers how many bytes: none at the end of the input, or where it cannot be read. An interrupted read is no end: it is made
-// again, and since a proved loop has to end, the tries are counted, up to a number that no run uses up.
-fn read_some<R: Read>(reader: &mut R, free: &mut [u8]) -> usize
-    ensures { (result ≤ length free.old) × (length free.new ≡ length free.old) }
+// Reads behind the window's bytes, and answers how many it has then: as many as before at the end of the input, or where it cannot be read. An interrupted
+// read is no end: it is made again, and since a proved loop has to end, the tries are counted, up to a number that no run uses up.
+pub fn fill<R: Read>(reader: &mut R, window: &mut Window<WINDOW_BYTES>) -> usize
+    ensures { Fills window.old window.new × (result ≡ length window.new) × (result ≤ layout.WINDOW-BYTES) }
 {
     for _ in 0..u64::MAX {
-        let got = reader.read(free);
+        let got = window.read_from(reader);
         if !is_interrupted(&got) {
-            return got.unwrap_or(0);
+            break;
         }
     }
-    0
+    window.len()
 }
 
-// Reads behind the first bytes of the window, and answers how many it has then.
-pub fn fill<R: Read>(reader: &mut R, window: &mut [u8; WINDOW_BYTES], filled: usize) -> usize
-    requires { filled ≤ layout.WINDOW-BYTES }
-    ensures { Fills filled result window.old window.new × (result ≤ layout.WINDOW-BYTES) }
+// Reads behind the window's bytes. A read that gives nothing is the last one.
+fn read_more<R: Read>(reader: &mut R, window: &mut Window<WINDOW_BYTES>) -> Input
+    ensures { ReadsMore result window.old window.new }
 {
-    let n = read_some(reader, &mut window[filled..]);
-    filled + n
-}
-
-// Reads behind the window's first bytes. A read that gives nothing is the last one.
-fn read_more<R: Read>(reader: &mut R, window: &mut [u8; WINDOW_BYTES], filled: usize) -> Input
-    requires { filled ≤ layout.WINDOW-BYTES }
-    ensures { ReadsMore filled result window.old window.new × (result.filled ≤ layout.WINDOW-BYTES) }
-{
-    let now = fill(reader, window, filled);
-    standing(now, now == filled, true)
+    let before = window.len();
+    let now = fill(reader, window);
+    standing(now == before, true)
 }
 
 // What comes after a step whose text is written: another one at once, or when more bytes have come; or nothing.
 fn read_on<R: Read>(
     reader: &mut R,
-    window: &mut [u8; WINDOW_BYTES],
-    step: Step,
+    window: &mut Window<WINDOW_BYTES>,
+    stands: Stands,
     last: bool,
 ) -> Input
-    requires { step.filled ≤ layout.WINDOW-BYTES }
-    ensures { ReadsOn step.stands step.filled last result window.old window.new × (result.filled ≤ layout.WINDOW-BYTES) }
+    ensures { ReadsOn stands last result window.old window.new }
 {
-    let stands = step.stands;
     match stands {
-        Stands::Ended => standing(step.filled, last, false),
-        Stands::Full => standing(step.filled, last, true),
-        Stands::More => read_more(reader, window, step.filled),
+        Stands::Ended => standing(last, false),
+        Stands::Full => standing(last, true),
+        Stands::More => read_more(reader, window),
     }
 }
 
-// Runs the codes in the window, writes their lines, and reads on. A text that cannot be written ends the program.
+// Runs the codes in the window, writes their lines, and reads on. A text that cannot be written ends the program, with no bytes left.
 fn turn<R: Read, W: Write>(
     reader: &mut R,
     writer: &mut W,
-    window: &mut [u8; WINDOW_BYTES],
+    window: &mut Window<WINDOW_BYTES>,
     input: Input,
     car: &mut Car,
     text: &mut Text<TEXT_BYTES>,
 ) -> Input
-    requires { input.filled ≤ layout.WINDOW-BYTES }
-    ensures { Turned (run_of format input.last car.old layout.TEXT-BYTES (take input.filled window.old)) (take input.filled window.old) input.last result window.new text.new car.new }
+    ensures { Turned (run_of format input.last car.old layout.TEXT-BYTES window.old) window.old input.last result window.new text.new car.new }
 {
-    let step = session::window::step(window, input.filled, input.last, car, text);
+    let stands = session::window::step(window, input.last, car, text);
     if !print(writer, text.as_bytes()) {
-        return standing(0, true, false);
+        window.clear(); // nothing is left to go on with
+        return standing(true, false);
     }
-    read_on(reader, window, step, input.last)
+    read_on(reader, window, stands, input.last)
 }
 
-// Takes turns from a window with so many bytes until the program ends, and answers how many bytes are left at the window's start: a code 0 that ended it
+// Takes turns from the window's bytes until the program ends, and answers how many bytes are left: a code 0 that ended it
 // is the first. A proved loop has to end, and nothing says that a stream does: the turns are counted, up to a number that no run uses up.
 fn serve<R: Read, W: Write>(
     reader: &mut R,
     writer: &mut W,
-    window: &mut [u8; WINDOW_BYTES],
-    filled: usize,
+    window: &mut Window<WINDOW_BYTES>,
     car: &mut Car,
     text: &mut Text<TEXT_BYTES>,
 ) -> usize
-    requires { filled ≤ layout.WINDOW-BYTES }
-    ensures { Serves car.old (take filled window.old) result window.new car.new }
+    ensures { Serves car.old window.old window.new car.new × (result ≡ length window.new) × (result ≤ layout.WINDOW-BYTES) }
 {
-    let mut input = standing(filled, false, true);
+    let mut input = standing(false, true);
     for _ in 0..u64::MAX {
         if !input.runs {
             break;
         }
         input = turn(reader, writer, window, input, car, text);
     }
-    input.filled
+    window.len()
 }
 
-// Runs the program from its start, over the first bytes of a window and then over what is read, and answers how many bytes are left at the window's
-// start: none where a text could not be written.
+// Runs the program from its start, over the window's bytes and then over what is read, and answers how many bytes are left: none where a text could not be
+// written.
 pub fn run<R: Read, W: Write>(
     reader: &mut R,
     writer: &mut W,
-    window: &mut [u8; WINDOW_BYTES],
-    filled: usize,
+    window: &mut Window<WINDOW_BYTES>,
     car: &mut Car,
     text: &mut Text<TEXT_BYTES>,
 ) -> usize
-    requires { filled ≤ layout.WINDOW-BYTES }
-    ensures { Serves start_car (take filled window.old) result window.new car.new }
+    ensures { Serves start_car window.old window.new car.new × (result ≡ length window.new) × (result ≤ layout.WINDOW-BYTES) }
 {
     session::start::start(car, text);
     if print(writer, text.as_bytes()) {
-        serve(reader, writer, window, filled, car, text)
+        serve(reader, writer, window, car, text)
     } else {
+        window.clear();
         0
     }
 }

@@ -4,19 +4,13 @@
 use lines::text::Text;
 use perform::Car;
 use session::layout::{TEXT_BYTES, WINDOW_BYTES};
+use session::window::Window;
 
 fn main(rt: HostRuntime) {
     let mut reader = rt.stdin();
     let mut writer = rt.stdout();
     let mut car = Car::new();
-    let mut window = [0u8; WINDOW_BYTES];
+    let mut window: Window<WINDOW_BYTES> = Window::new();
     let mut text: Text<TEXT_BYTES> = Text::new();
-    console::run(
-        &mut reader,
-        &mut writer,
-        &mut window,
-        0,
-        &mut car,
-        &mut text,
-    );
+    console::run(&mut reader, &mut writer, &mut window, &mut car, &mut text);
 }

@@ -1,22 +1,21 @@
--- Laws on a step of the program. In order: bytes that are moved to the start; what is left of a window's first bytes; the bytes that a run took are among them; a step is made, and what it leaves; a window that asks for more has room for them. Assumes nothing.
+-- Laws on a step of the program. In order: bytes that are moved to the start; the bytes that a run took are among its window's; a window that asks for more has room for them. Assumes nothing.
 use Prim.Native.Nat.{ℕ, zero, suc, ◌+◌, ◌-◌, ◌≤◌, ◌<◌}
 use mathlib.Core.Bool.{Bool}
 use mathlib.Core.List.{List, [], ◌∷◌}
-use mathlib.Core.Path.{◌≡◌, sym, ◌∙◌}
+use mathlib.Core.Path.{◌≡◌, sym, ap, ◌∙◌}
 use native.Mathlib.Omega.{arith}
 use lib.ListN.{length, take, drop, length-drop}
-use lib.Seq.{paste as moved, length-take-le, take-nil}
+use lib.Seq.{paste as moved, take-nil}
 use Rattle.lists.specs.Part.{part, paste}
 use Rattle.lists.proofs.Parts.{length_part}
 use Rattle.lists.specs.Puts.{Puts}
 use Rattle.scenario.specs.Format.{format}
 use Rattle.session.specs.declared.Run.{Run}
-use Rattle.session.specs.declared.Step.{Step}
 use Rattle.session.specs.declared.Stands.{Stands}
 use Rattle.session.specs.Layout.{WINDOW-BYTES}
 use Rattle.perform.specs.declared.Car.{Car}
-use Rattle.session.specs.Runs.{Ran, run_of, Runs, Steps}
-use Rattle.turns.proofs.Lent.{lent_front, puts_within}
+use Rattle.session.specs.Runs.{run_of, Runs, Steps}
+use Rattle.turns.proofs.Lent.{lent_front}
 use Rattle.session.proofs.Windows.{run_goes}
 
 pub moved_front : (t u : List ℕ) (a n : ℕ) → a + n ≤ length t → u ≡ moved t 0 (drop a t) n → Puts t u 0 n (part t a n)
@@ -42,31 +41,20 @@ part_rest : (t : List ℕ) (a b : ℕ) → part t a (b - a) ≡ drop a (take b t
 unfolding part
 part_rest t a b = rest_of t a b
 
-module _ (last : Bool) (s : Car) (room : ℕ) (window : List ℕ) (filled : ℕ) {r : Run} {text : List ℕ} {c : Car}
-    (p : Runs (run_of format last s room (take filled window)) r text c) (fits : filled ≤ length window) where
-  pub took_within : r.taken ≤ filled
-  took_within = omega (arith, p.taken, (run_goes format last s room (take filled window)).within, length-take-le filled window fits)
+-- what is moved to the start stands there
+pub dropped : (t u : List ℕ) (a b : ℕ) → a ≤ b → b ≤ length t → u ≡ moved t 0 (drop a t) (b - a) → take (b - a) u ≡ drop a (take b t)
+dropped t u a b l h e =
+    let p = moved_front t u a (b - a) (omega arith) e in
+    let count : length (part t a (b - a)) ≡ b - a = length_part t a (b - a) (omega arith) in
+    (rw count at (lent_front t u (part t a (b - a)) p.put)) ∙ part_rest t a b
 
-  pub step_made : {window' : List ℕ} {n : ℕ} → Puts window window' 0 n (part window r.taken (filled - r.taken)) → length window' ≡ length window
-      → Steps (run_of format last s room (take filled window)) (take filled window) (record { filled = n; stands = r.stands }) window window' text c
-  step_made q same = record {
-    text = p.text;
-    stands = p.stands;
-    moves = rw (part_rest window r.taken filled, p.taken) at q;
-    window_fits = puts_within q same (omega arith);
-    car = p.car;
-  }
-
--- the window's first bytes are then those that the run left
-pub step_leaves : {x : Ran} {bytes : List ℕ} {r : Step} {window window' text : List ℕ} {c : Car}
-    → Steps x bytes r window window' text c → take r.filled window' ≡ drop x.taken bytes
-step_leaves {x} {bytes} {r} {window} {window'} p =
-    let count : r.filled ≡ length (drop x.taken bytes) = omega (arith, p.moves.end) in
-    rw count (lent_front window window' (drop x.taken bytes) p.moves.put)
+-- the bytes that a run took are among its window's
+pub took_within : (last : Bool) (s : Car) (room : ℕ) (bytes : List ℕ) {r : Run} {text : List ℕ} {c : Car} → Runs (run_of format last s room bytes) r text c → r.taken ≤ length bytes
+took_within last s room bytes p = omega (arith, p.taken, (run_goes format last s room bytes).within)
 
 -- A window that asks for more bytes has room for them: fewer are left than the longest code has.
-pub window_has_room : (last : Bool) (s : Car) (room : ℕ) (bytes : List ℕ) {r : Step} {window window' text : List ℕ} {c : Car}
-    → Steps (run_of format last s room bytes) bytes r window window' text c → r.stands ≡ Stands.More → r.filled < WINDOW-BYTES
+pub window_has_room : (last : Bool) (s : Car) (room : ℕ) (bytes : List ℕ) {e : Stands} {window text : List ℕ} {c : Car}
+    → Steps (run_of format last s room bytes) bytes e window text c → e ≡ Stands.More → length window < WINDOW-BYTES
 window_has_room last s room bytes p e =
     let few = ((run_goes format last s room bytes).more (sym p.stands ∙ e)).1 in
-    omega (arith, few, p.moves.end, length-drop (run_of format last s room bytes).taken bytes)
+    omega (arith, few, ap length p.left, length-drop (run_of format last s room bytes).taken bytes)

@@ -1,14 +1,13 @@
 -- Document 01, "Scenario program": the codes of a window, one after another, while they are whole and a buffer has room for another line. Definitions only.
-use Rattle.std.specs.Prelude.{ℕ, zero, suc, ◌+◌, ◌-◌, ◌≤◌, Bool, List, [], ◌++◌, ◌≡◌, ltb, length, drop}
+use Rattle.std.specs.Prelude.{ℕ, zero, suc, ◌+◌, ◌-◌, Bool, List, [], ◌++◌, ◌≡◌, ltb, length, take, drop, Result, Ok, Err}
 use Rattle.std.specs.Float.{Format}
+use Rattle.std.specs.declared.io.Error.{Error}
 use Rattle.lists.specs.Pick.{pick}
-use Rattle.lists.specs.Puts.{Puts}
 use Rattle.lines.specs.Layout.{line_bytes}
 use Rattle.scenario.specs.Format.{hex_digits_of}
 use Rattle.turns.specs.declared.Next.{Next}
 use Rattle.session.specs.declared.Stands.{Stands}
 use Rattle.session.specs.declared.Run.{Run}
-use Rattle.session.specs.declared.Step.{Step}
 use Rattle.perform.specs.declared.Car.{Car}
 use Rattle.session.specs.Program.{printed_from}
 use Rattle.turns.specs.Turns.{Turned, turn_of}
@@ -57,10 +56,14 @@ printed_after f Stands.More s bytes = printed_from f s bytes
 printed_after f Stands.Full s bytes = printed_from f s bytes
 
 -- ---- a window that is kept for the next bytes
--- a run is made over the bytes of a window, and those that are left are moved to its start
-pub record Steps (x : Ran) (bytes : List ℕ) (r : Step) (window window' printed : List ℕ) (c : Car) : Type 0 where
+-- a read came to a window: its bytes are kept, and so many stand behind them; none where it failed
+abbrev pub Came : Result ℕ Error → List ℕ → List ℕ → Type 0
+Came (Ok n) before after = (take (length before) after ≡ before) × (length after ≡ length before + n)
+Came (Err e) before after = after ≡ before
+
+-- a run is made over the bytes of a window, and those that it left are the window's
+pub record Steps (x : Ran) (bytes : List ℕ) (e : Stands) (window printed : List ℕ) (c : Car) : Type 0 where
   pub text : printed ≡ x.text
-  pub stands : r.stands ≡ x.stands
-  pub moves : Puts window window' 0 r.filled (drop x.taken bytes)
-  pub window_fits : r.filled ≤ length window
+  pub stands : e ≡ x.stands
+  pub left : window ≡ drop x.taken bytes
   pub car : c ≡ x.car

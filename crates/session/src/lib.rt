@@ -4,7 +4,7 @@
 pub mod layout; // the numbers of the program
 pub mod start; // how it starts
 pub mod runs; // the codes of a window
-pub mod window; // a window that is kept for the next bytes
+pub mod window; // the window on the stream, and a step over it
 
 // How a run of codes stands: the program has ended; more bytes have to come; or the text has to be written out.
 #[derive(Clone, Copy)]
@@ -18,12 +18,5 @@ pub enum Stands {
 #[derive(Clone, Copy)]
 pub struct Run {
     pub taken: usize,
-    pub stands: Stands,
-}
-
-// A step of the program: how many bytes of the window are left, at its start; and how it stands.
-#[derive(Clone, Copy)]
-pub struct Step {
-    pub filled: usize,
     pub stands: Stands,
 }

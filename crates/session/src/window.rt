@@ -1,42 +1,91 @@
-// The window on the stream: what a run leaves is moved to its start, and the next bytes are read behind it.
-ghost use Rattle.std.specs.Prelude.{◌-◌, ◌≤◌, take};
-ghost use Rattle.lists.specs.Part.{part};
-ghost use Rattle.lists.specs.Puts.{Puts};
+// The window on the stream: a run takes bytes from its start, and the next bytes are read behind those that are left.
+ghost use Rattle.std.specs.Prelude.{List, ℕ, [], ◌≡◌, ◌≤◌, length, take, drop};
 ghost use Rattle.scenario.specs.Format.{format};
 ghost use Rattle.session.specs.Layout as layout;
-ghost use Rattle.session.specs.Runs.{Steps, run_of};
+ghost use Rattle.session.specs.Runs.{Came, Steps, run_of};
 
 use super::layout::{TEXT_BYTES, WINDOW_BYTES};
-use super::{Step, runs};
+use super::{Stands, runs};
 use lines::text::Text;
 use perform::Car;
+use std::io::{self, Read};
+use std::marker::Model;
 
-// Moves the bytes from one place up to another to the window's start, and answers how many they are.
-pub fn drop_front(window: &mut [u8; WINDOW_BYTES], from: usize, end: usize) -> usize
-    requires { (from ≤ end) × (end ≤ layout.WINDOW-BYTES) }
-    ensures { Puts window.old window.new 0 result (part window.old from (end - from)) × (result ≤ layout.WINDOW-BYTES) }
-{
-    window.copy_within(from..end, 0);
-    end - from
+// At most N bytes, in a memory of its own: contracts see the bytes.
+#[derive(Drop)]
+pub struct Window<const N: usize> {
+    bytes: [u8; N],
+    filled: usize,
 }
 
-// Runs the codes of the window's first bytes, and moves those that are left to its start. The text is the run's.
+impl<const N: usize> Model for Window<N> {
+    ghost Value = { List ℕ };
+
+    ghost view = { λ w. take w.filled w.bytes };
+
+    ghost invariant = { λ w. w.filled ≤ N };
+}
+
+impl<const N: usize> Window<N> {
+    pub fn new() -> Self
+        ensures { result ≡ [] }
+    {
+        Window {
+            bytes: [0; N],
+            filled: 0,
+        }
+    }
+
+    pub fn len(&self) -> usize
+        ensures { (result ≡ length self.now) × (result ≤ N) }
+    {
+        self.filled
+    }
+
+    pub fn as_bytes(&self) -> &[u8]
+        ensures { result.now ≡ self.now }
+    {
+        &self.bytes[..self.filled]
+    }
+
+    // No bytes are left.
+    pub fn clear(&mut self)
+        ensures { self.new ≡ [] }
+    {
+        self.filled = 0;
+    }
+
+    // The first n bytes go, and the others are moved to the start.
+    pub fn drop_front(&mut self, n: usize)
+        requires { n ≤ length self.old }
+        ensures { self.new ≡ drop n self.old }
+    {
+        self.bytes.copy_within(n..self.filled, 0);
+        self.filled -= n;
+    }
+
+    // Reads once, behind the bytes that are there: those that came are the window's then.
+    pub fn read_from<R: Read>(&mut self, reader: &mut R) -> io::Result<usize>
+        ensures { Came result self.old self.new }
+    {
+        let all = &mut self.bytes[..];
+        let n = reader.read(&mut all[self.filled..])?;
+        self.filled += n;
+        Ok(n)
+    }
+}
+
+// Runs the codes of the window's bytes, and drops those that are done with. The text is the run's.
 pub fn step(
-    window: &mut [u8; WINDOW_BYTES],
-    filled: usize,
+    window: &mut Window<WINDOW_BYTES>,
     last: bool,
     car: &mut Car,
     text: &mut Text<TEXT_BYTES>,
-) -> Step
-    requires { filled ≤ layout.WINDOW-BYTES }
-    ensures { Steps (run_of format last car.old layout.TEXT-BYTES (take filled window.old)) (take filled window.old) result window.old window.new text.new car.new × (result.filled ≤ layout.WINDOW-BYTES) }
+) -> Stands
+    ensures { Steps (run_of format last car.old layout.TEXT-BYTES window.old) window.old result window.new text.new car.new }
 {
-    let run = runs::run_codes(&window[..filled], last, car, text);
+    let run = runs::run_codes(window.as_bytes(), last, car, text);
     let taken = run.taken;
-    let left = drop_front(window, taken, filled);
-    let stands = run.stands;
-    Step {
-        filled: left,
-        stands,
-    }
+    window.drop_front(taken);
+    run.stands
 }

@@ -1,7 +1,6 @@
 -- `console::serve` meets its contract: each turn is a run of `served` more, over what was read. Assumes nothing.
-use lib.ListN.{take}
 use Rattle.console.proofs.Serving.{Loop}
 use Rattle.console.proofs.serve.Given as goal
 
 abbrev pub invariant-loop : goal.invariant-loop
-invariant-loop g l = Loop l.fn.car (take l.fn.filled l.fn.window) l.counter l.input l.window l.car
+invariant-loop g l = Loop l.fn.car l.fn.window l.counter l.input l.window l.car

@@ -5,9 +5,9 @@ use Rattle.console.proofs.Turning.{read_follows}
 use Rattle.console.proofs.turn.Goals as goal
 
 pub print-requires : goal.print-requires
-print-requires g c = Printed.of_run _ _ _ (c.as_bytes.ensures ∙ c.step-step.ensures.0.text)
+print-requires g c = Printed.of_run _ _ _ (c.as_bytes.ensures ∙ c.step-stands.ensures.text)
 
 pub returns : goal.returns
 returns g c =
-    let made = c.step-step.ensures.0 in
-    record { text = made.text; car = made.car; follows = read_follows made _ _ _ c.read_on.ensures.0; fits = c.read_on.ensures.1 }
+    let made = c.step-stands.ensures in
+    record { text = made.text; car = made.car; follows = read_follows made.left _ _ _ _ made.stands c.read_on.ensures }

@@ -8,6 +8,11 @@ use Rattle.lines.specs.Line.{line}
 use Rattle.lines.proofs.Digits.{length_decimal, length_results}
 use Rattle.lines.proofs.text.Text.put_line.Goals as goal
 
+pub returns : goal.returns
+unfolding line
+returns g c =
+    rw (c.put-2.ensures, c.put_results.ensures, c.put_decimal-2.ensures, c.put.ensures, c.put_decimal.ensures) (simp append_assoc)
+
 pub put-requires : goal.put-requires
 put-requires g c = (search rules, rw c.put_decimal.ensures (simp length-append (omega (arith, length_decimal c.args.code))))
 
@@ -27,8 +32,3 @@ put-requires-2 g c = (
   rw (c.put_results.ensures, c.put_decimal-2.ensures, c.put.ensures, c.put_decimal.ensures) (
       simp length-append (omega (arith, length_decimal c.args.code, length_decimal c.args.answer, length_results HEX-DIGITS c.args.results.now, c.requires.0))),
 )
-
-pub returns : goal.returns
-unfolding line
-returns g c =
-    rw (c.put-2.ensures, c.put_results.ensures, c.put_decimal-2.ensures, c.put.ensures, c.put_decimal.ensures) (simp append_assoc)
