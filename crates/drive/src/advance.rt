@@ -10,7 +10,7 @@ ghost use Rattle.drive.specs.Drive.{wakes, drive_reply, not_driven, drive_of};
 ghost use Rattle.drive.specs.Tried.{tried, try_step};
 
 use super::Driven;
-use ground::{Frame, Listed};
+use ground::{Answers, Frame, Listed};
 use refusals::Refusal;
 use table::layout::*;
 
@@ -33,13 +33,17 @@ fn try_step(table: &mut [f32; SIZE], up: u32, on: Listed<'_>) -> Result<Driven, 
     ensures { tried (replied drive_reply not_driven result) table.new ≡ try_step binary32 stored table.old up (frame_of on.entry.frame) (length on.entry.frame.answers.now) }
 {
     let n = on.frame.answers.len();
+    let dt = on.frame.dt;
+    let answers = Answers {
+        list: on.frame.answers,
+    };
     let kept = *table;
     let d = update::demand_step(table, on);
-    if !passes::chassis::are_admitted(table, on) {
+    if !passes::chassis::are_admitted(table, dt, answers) {
         *table = kept;
         return Err(Refusal::WildGrip);
     }
-    let after = update::finish_step(table, up, on, d);
+    let after = update::finish_step(table, up, dt, answers, d);
     if !table::bounds::stored_within(table, n) {
         *table = kept;
         return Err(Refusal::WildStep);

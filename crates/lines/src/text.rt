@@ -30,6 +30,14 @@ impl<const N: usize> Text<N> {
         }
     }
 
+    // A text of the first bytes of a memory.
+    pub fn over(bytes: [u8; N], len: usize) -> Self
+        requires { len ≤ N }
+        ensures { result ≡ take len bytes.entry }
+    {
+        Text { bytes, len }
+    }
+
     // No bytes are left.
     pub fn clear(&mut self)
         ensures { self.new ≡ [] }

@@ -6,7 +6,7 @@ ghost use Rattle.wheel.specs.Ray.{answer_at};
 ghost use Rattle.passes.specs.Passes.{stored, springs, no_directions, directions_in, directions_at, pushes, admits, admitted_at, demands_admitted};
 
 use body::Chassis;
-use ground::Listed;
+use ground::Answers;
 use table::layout::{SIZE, WHEELS};
 use tyre::WheelTuning;
 use vector::{Normalized, Vector};
@@ -88,22 +88,21 @@ fn is_admitted(tuning: WheelTuning, dt: f32, w: Wheel) -> bool
 
 // The same of wheel i, if it is grounded.
 #[tactic(auto, unfolding(crate::specs::Passes::admitted_at, ground::specs::Frame::grounded_at, lists::specs::Pick::pick))]
-fn is_admitted_at(table: &[f32; SIZE], on: Listed<'_>, i: usize) -> bool
-    requires { i < length on.frame.answers.now }
-    ensures { result ≡ admitted_at binary32 stored on.entry.frame.dt (answer_at on.entry.frame.answers.now) table.now i }
+fn is_admitted_at(table: &[f32; SIZE], dt: f32, answers: Answers<'_>, i: usize) -> bool
+    requires { i < length answers.list.now }
+    ensures { result ≡ admitted_at binary32 stored dt (answer_at answers.entry.list.now) table.now i }
 {
-    let f = on.frame;
-    if wheel::ray::is_grounded(f.answers[i]) {
+    if wheel::ray::is_grounded(answers.list[i]) {
         let w = table::rows::get_wheel(table, i);
-        is_admitted(w.settings.tuning, f.dt, w)
+        is_admitted(w.settings.tuning, dt, w)
     } else {
         true
     }
 }
 
 // The same of each wheel.
-pub fn are_admitted(table: &[f32; SIZE], on: Listed<'_>) -> bool
-    ensures { result ≡ demands_admitted binary32 stored on.entry.frame.dt (answer_at on.entry.frame.answers.now) (length on.entry.frame.answers.now) table.now }
+pub fn are_admitted(table: &[f32; SIZE], dt: f32, answers: Answers<'_>) -> bool
+    ensures { result ≡ demands_admitted binary32 stored dt (answer_at answers.entry.list.now) (length answers.entry.list.now) table.now }
 {
-    (0..on.frame.answers.len()).all(|i| is_admitted_at(table, on, i))
+    (0..answers.list.len()).all(|i| is_admitted_at(table, dt, answers, i))
 }

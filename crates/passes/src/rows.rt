@@ -9,7 +9,7 @@ ghost use Rattle.ground.specs.Frame.{frame_of};
 ghost use Rattle.passes.specs.Passes.{stored, changed, transform_at, transforms, casts, suspensions, directions_at, demand_of, demands, spins};
 
 use body::Body;
-use ground::Listed;
+use ground::{Answers, Listed};
 use table::layout::{SIZE, WHEELS};
 use table::parts::{Force, Spinning};
 use vector::Pose;
@@ -47,10 +47,10 @@ fn cast_wheel(table: &mut [f32; SIZE], i: usize, chassis: Body, answer: RayAnswe
 }
 
 #[tactic(auto, using(crate::proofs::Laws::passing), unfolding(crate::specs::Passes::casts, crate::specs::Passes::changed, crate::specs::Passes::cast_at))]
-pub fn cast_pass(table: &mut [f32; SIZE], chassis: Body, on: Listed<'_>)
-    ensures { table.new ≡ casts binary32 stored chassis (answer_at on.entry.frame.answers.now) (length on.entry.frame.answers.now) table.old }
+pub fn cast_pass(table: &mut [f32; SIZE], chassis: Body, answers: Answers<'_>)
+    ensures { table.new ≡ casts binary32 stored chassis (answer_at answers.entry.list.now) (length answers.entry.list.now) table.old }
 {
-    for (i, a) in on.frame.answers.iter().enumerate() {
+    for (i, a) in answers.list.iter().enumerate() {
         cast_wheel(table, i, chassis, *a);
     }
 }
@@ -67,10 +67,10 @@ fn suspend_wheel(table: &mut [f32; SIZE], i: usize, invmass: f32, contact: bool)
 }
 
 #[tactic(auto, using(crate::proofs::Laws::passing), unfolding(crate::specs::Passes::suspensions, crate::specs::Passes::changed, crate::specs::Passes::suspend_at, ground::specs::Frame::grounded_at))]
-pub fn suspension_pass(table: &mut [f32; SIZE], invmass: f32, on: Listed<'_>)
-    ensures { table.new ≡ suspensions binary32 stored invmass (answer_at on.entry.frame.answers.now) (length on.entry.frame.answers.now) table.old }
+pub fn suspension_pass(table: &mut [f32; SIZE], invmass: f32, answers: Answers<'_>)
+    ensures { table.new ≡ suspensions binary32 stored invmass (answer_at answers.entry.list.now) (length answers.entry.list.now) table.old }
 {
-    for (i, a) in on.frame.answers.iter().enumerate() {
+    for (i, a) in answers.list.iter().enumerate() {
         suspend_wheel(table, i, invmass, wheel::ray::is_grounded(*a));
     }
 }
@@ -137,11 +137,10 @@ fn spin_wheel(table: &mut [f32; SIZE], i: usize, dt: f32, contact: bool, chassis
 }
 
 #[tactic(auto, using(crate::proofs::Laws::passing), unfolding(crate::specs::Passes::spins, crate::specs::Passes::changed, crate::specs::Passes::spin_at, ground::specs::Frame::grounded_at))]
-pub fn spin_pass(table: &mut [f32; SIZE], chassis: Body, on: Listed<'_>)
-    ensures { table.new ≡ spins binary32 on.entry.frame.dt chassis (answer_at on.entry.frame.answers.now) (length on.entry.frame.answers.now) table.old }
+pub fn spin_pass(table: &mut [f32; SIZE], dt: f32, chassis: Body, answers: Answers<'_>)
+    ensures { table.new ≡ spins binary32 dt chassis (answer_at answers.entry.list.now) (length answers.entry.list.now) table.old }
 {
-    let f = on.frame;
-    for (i, a) in f.answers.iter().enumerate() {
-        spin_wheel(table, i, f.dt, wheel::ray::is_grounded(*a), chassis);
+    for (i, a) in answers.list.iter().enumerate() {
+        spin_wheel(table, i, dt, wheel::ray::is_grounded(*a), chassis);
     }
 }

@@ -4,7 +4,9 @@
 mod calls; // add, controls and read
 mod frames; // aim and drive
 
-ghost use Rattle.std.specs.Prelude.{◌≡◌};
+ghost use Rattle.std.specs.Prelude.{◌≡◌, replicate};
+ghost use Rattle.real.specs.Number.{zero};
+ghost use Rattle.table.specs.Layout as at;
 ghost use Rattle.grammar.specs.declared.Asked.{Asked};
 ghost use Rattle.grammar.specs.Grammar.{asked};
 ghost use Rattle.scenario.specs.Format.{format};
@@ -28,7 +30,9 @@ pub struct Car {
 
 impl Car {
     // Zeros: no vehicle yet.
-    pub fn new() -> Car {
+    pub fn new() -> Car
+        ensures { (result.table ≡ replicate at.SIZE zero) × (result.whole ≡ replicate at.WHOLE 0) }
+    {
         Car {
             table: [0.0; SIZE],
             whole: [0u32; WHOLE],

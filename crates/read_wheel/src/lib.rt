@@ -83,7 +83,7 @@ fn reading_of(w: Wheel) -> Reading
 // Reads one wheel after a drive. The settled centre is where the tyre is drawn. A wheel with no axis or no forward direction cannot push along it.
 // Takes: the table and the whole numbers of a vehicle; the wheel's number. It changes nothing.
 // Answers the wheel's centre, world direction, world axle, suspension length, force, forward and side impulse, skid,
-// rotation, settled centre, and whether it had no axis and no forward direction; or refuses with the first that holds, and zeros: 1, no
+// rotation, settled centre, and whether it had no axis and no forward direction; or refuses with the first that holds: 1, no
 // vehicle's table; 4, no such wheel; 5, not driven since the last set-up, add or aim; 2, a stored number that is not finite or above 2^40 in
 // magnitude.
 pub fn read_wheel(table: &[f32], whole: &[u32], wheel: u32) -> Result<Reading, Refusal>

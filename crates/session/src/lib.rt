@@ -1,4 +1,4 @@
-// Document 01, "Scenario program": the program on slices. The bytes of the stream come in windows of any size, and the text goes out in blocks.
+// Document 01, "Scenario program": the program over a window on the stream and a text. The bytes come in windows of any size, and the text goes out in blocks.
 #![tactic(auto)]
 
 pub mod layout; // the numbers of the program

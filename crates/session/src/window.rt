@@ -36,6 +36,14 @@ impl<const N: usize> Window<N> {
         }
     }
 
+    // A window of the first bytes of a memory.
+    pub fn over(bytes: [u8; N], filled: usize) -> Self
+        requires { filled ≤ N }
+        ensures { result ≡ take filled bytes.entry }
+    {
+        Window { bytes, filled }
+    }
+
     pub fn len(&self) -> usize
         ensures { (result ≡ length self.now) × (result ≤ N) }
     {

@@ -1,5 +1,5 @@
 // Set up: makes any lent numbers a vehicle with no wheels. The other calls are in crates `add_wheel`, `set_controls`, `aim`, `drive` and `read_wheel`.
-// Every call is total on every table and every number, NaN included; a refusal answers its number, zeros elsewhere, and changes nothing lent.
+// Every call is total on every table and every number, NaN included; a refusal answers its number, and changes nothing lent.
 //
 // The life of a table: set_up once; add_wheel for each wheel; then for each frame set_controls as needed, aim, cast the rays that the aim
 // answered, drive with what they met, and read_wheel. The table is `layout::SIZE` numbers; beside it stand `layout::WHOLE` whole numbers.

@@ -9,7 +9,7 @@ ghost use Rattle.passes.specs.Passes.{stored};
 ghost use Rattle.passes.specs.Step.{work, pushed, spun, demand_step};
 
 use body::Chassis;
-use ground::Listed;
+use ground::{Answers, Listed};
 use table::layout::{SIZE, WHEELS};
 use wheel::Directions;
 
@@ -29,8 +29,11 @@ pub fn demand_step(table: &mut [f32; SIZE], on: Listed<'_>) -> Demanded
     let n = on.frame.answers.len();
     let kept = table::rows::get_chassis(table);
     let b = kept.body;
-    passes::rows::cast_pass(table, b, on);
-    passes::rows::suspension_pass(table, b.invmass, on);
+    let answers = Answers {
+        list: on.frame.answers,
+    };
+    passes::rows::cast_pass(table, b, answers);
+    passes::rows::suspension_pass(table, b.invmass, answers);
     let c = passes::chassis::spring_pass(table, n, on.frame.dt, kept);
     let grounded = on.grounded_wheels();
     let directions = passes::chassis::directions_in(table, n);
@@ -43,16 +46,22 @@ pub fn demand_step(table: &mut [f32; SIZE], on: Listed<'_>) -> Demanded
 
 // The rest of the step: the rescale of rule 8, rules 9 and 10, and the chassis stored. Answers the chassis.
 #[tactic(auto, unfolding(passes::specs::Step::spun, passes::specs::Step::pushed))]
-pub fn finish_step(table: &mut [f32; SIZE], up: u32, on: Listed<'_>, d: Demanded) -> Chassis
-    ensures { work table.new result d.directions ≡ spun binary32 on.entry.frame.dt (answer_at on.entry.frame.answers.now) (length on.entry.frame.answers.now) (pushed binary32 up (length on.entry.frame.answers.now) (work table.old d.chassis d.directions)) }
+pub fn finish_step(
+    table: &mut [f32; SIZE],
+    up: u32,
+    dt: f32,
+    answers: Answers<'_>,
+    d: Demanded,
+) -> Chassis
+    ensures { work table.new result d.directions ≡ spun binary32 dt (answer_at answers.entry.list.now) (length answers.entry.list.now) (pushed binary32 up (length answers.entry.list.now) (work table.old d.chassis d.directions)) }
 {
-    let n = on.frame.answers.len();
+    let n = answers.list.len();
     slides::rescale_pass(table, n);
     let c = d.chassis;
     let p = c.pose;
     let axis = vector::rotate(p.rotation, vector::ith(up));
     let after = passes::chassis::push_pass(table, n, axis, &d.directions, c);
-    passes::rows::spin_pass(table, after.body, on);
+    passes::rows::spin_pass(table, dt, after.body, answers);
     table::rows::put_chassis(table, after);
     after
 }

@@ -7,4 +7,4 @@ use Rattle.passes.proofs.Laws.{Passing}
 use Rattle.passes.proofs.rows.cast_pass.Given as goal
 
 abbrev pub invariant-loop-i : goal.invariant-loop-i
-invariant-loop-i l = Passing (cast_at binary32 stored l.chassis (answer_at l.fn.on.frame.answers.now)) (length l.fn.on.frame.answers.now) l.initial.table l.i l.table
+invariant-loop-i l = Passing (cast_at binary32 stored l.chassis (answer_at l.fn.answers.list.now)) (length l.fn.answers.list.now) l.initial.table l.i l.table

@@ -1,7 +1,7 @@
--- `ground::Listed::ground_named` meets its contract: 0 names no body, any other number the body before it in the list. Assumes nothing.
+-- `ground::ground_named` meets its contract: 0 names no body, any other number the body before it in the list. Assumes nothing.
 use Rattle.lists.proofs.Picks.{picks}
 use Rattle.ground.specs.Frame.{ground_named}
-use Rattle.ground.proofs.Listed.ground_named.Goals as goal
+use Rattle.ground.proofs.ground_named.Goals as goal
 
 pub returns-then-n-eq0 : goal.returns-then-n-eq0
 unfolding ground_named
